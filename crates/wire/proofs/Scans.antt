@@ -1,0 +1,66 @@
+-- The laws of a search and a test over numbered places. A loop at place i of n has left what `firstFrom f (n - i) i` finds, and that
+-- comes to what the whole finds: one law for each way a turn may go. Assumes nothing.
+use mathlib.Core.Path.{_≡_, refl, sym, ap, _∙_}
+use mathlib.Core.Logic.{⊎-elim}
+use mathlib.Core.Bool.{Bool, true, false, cond, _&&_, false≢true}
+use mathlib.Core.Option.{Option, none, some}
+use Prim.Native.Nat.{ℕ, zero, suc, _+_, _-_, _≤_, _<_}
+use native.Mathlib.Nat.{eq-or-lt-of-le}
+use native.Mathlib.Numerals.{add-one}
+use native.Mathlib.Omega.{arith}
+use Rattle.wire.specs.Places.{firstFrom, everyFrom}
+
+module _ (f : ℕ → Bool) where
+  -- ---- a turn of the search
+
+  first-step : (n i : ℕ) → i < n → firstFrom f (n - i) i ≡ cond (f i) (some i) (firstFrom f (n - (i + 1)) (i + 1))
+  unfolding firstFrom
+  first-step n i h = let left : n - i ≡ suc (n - (i + 1)) = omega arith in rw (left, add-one i)
+
+  pub first-here : (n i : ℕ) → i < n → f i ≡ true → firstFrom f (n - i) i ≡ some i
+  first-here n i h here = first-step n i h ∙ (rw here)
+
+  pub first-more : (n i : ℕ) → i < n → f i ≡ false → firstFrom f (n - (i + 1)) (i + 1) ≡ firstFrom f (n - i) i
+  first-more n i h here = sym (first-step n i h ∙ (rw here))
+
+  pub first-ends : (n i : ℕ) → n ≤ i → firstFrom f (n - i) i ≡ none
+  unfolding firstFrom
+  first-ends n i h = let left : n - i ≡ 0 = omega arith in rw left
+
+  -- ---- a turn of the test
+
+  every-step : (n i : ℕ) → i < n → everyFrom f (n - i) i ≡ (f i && everyFrom f (n - (i + 1)) (i + 1))
+  unfolding everyFrom
+  every-step n i h = let left : n - i ≡ suc (n - (i + 1)) = omega arith in rw (left, add-one i)
+
+  pub every-fails : (n i : ℕ) → i < n → f i ≡ false → everyFrom f (n - i) i ≡ false
+  every-fails n i h here = every-step n i h ∙ (rw here)
+
+  pub every-more : (n i : ℕ) → i < n → f i ≡ true → everyFrom f (n - (i + 1)) (i + 1) ≡ everyFrom f (n - i) i
+  every-more n i h here = sym (every-step n i h ∙ (rw here))
+
+  pub every-ends : (n i : ℕ) → n ≤ i → everyFrom f (n - i) i ≡ true
+  unfolding everyFrom
+  every-ends n i h = let left : n - i ≡ 0 = omega arith in rw left
+
+  -- ---- what they mean
+
+  -- the place found is one of those searched, and the test holds there
+  pub first-found : (n i k : ℕ) → firstFrom f n i ≡ some k → (i ≤ k) × (k < i + n) × (f k ≡ true)
+  unfolding firstFrom
+  first-found zero i k e = absurd (let z : _≡_ {A = ℕ} 0 1 = cc in omega arith)
+  first-found (suc n) i k e = by-test (first-found n (suc i) k) (f i) refl e
+    where
+      by-test : (firstFrom f n (suc i) ≡ some k → (suc i ≤ k) × (k < suc i + n) × (f k ≡ true)) → (t : Bool) → f i ≡ t → cond t (some i) (firstFrom f n (suc i)) ≡ some k → (i ≤ k) × (k < i + suc n) × (f k ≡ true)
+      by-test rest true here found = let same : i ≡ k = cc in (omega arith, omega arith, rw (← same) here)
+      by-test rest false here found = let later = rest found in (omega arith, omega arith, later .2)
+
+  pub every-holds : (n i k : ℕ) → everyFrom f n i ≡ true → i ≤ k → k < i + n → f k ≡ true
+  unfolding everyFrom
+  every-holds zero i k e low high = absurd (omega arith)
+  every-holds (suc n) i k e low high = by-test (every-holds n (suc i) k) (f i) refl e
+    where
+      by-test : (everyFrom f n (suc i) ≡ true → suc i ≤ k → k < suc i + n → f k ≡ true) → (t : Bool) → f i ≡ t → (t && everyFrom f n (suc i)) ≡ true → f k ≡ true
+      by-test later true here rest =
+          ⊎-elim (λ (q : i ≡ k). rw (← q) here) (λ (l : i < k). later rest l (omega arith)) (eq-or-lt-of-le low)
+      by-test later false here rest = absurd (false≢true rest)

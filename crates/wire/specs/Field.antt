@@ -1,0 +1,47 @@
+-- Numbers and text in bytes. A byte is a number below 256, a field a run of bytes. Every definition is total: a part that runs past
+-- the end is what is left of it. Assumes nothing.
+use Prim.Native.Nat.{ℕ, zero, suc, _+_, _*_, _/_, _%_, _<_}
+use mathlib.Core.Bool.{Bool, true, false, _&&_, _||_}
+use mathlib.Core.List.{List, [], _∷_, _++_}
+use lib.ListN.{take, drop, getD}
+use lib.Dec.{eqb, ltb}
+
+-- each element is a byte
+abbrev pub Bytes : List ℕ → Type 0
+Bytes s = (i : ℕ) → getD s i 0 < 256
+
+-- the n bytes of s from place at on
+abbrev pub part : List ℕ → ℕ → ℕ → List ℕ
+part s at n = take n (drop at s)
+
+-- the number v, with the bytes that follow it
+unfoldable pub numberFrom : ℕ → List ℕ → ℕ
+numberFrom v [] = v
+numberFrom v (b ∷ bs) = numberFrom (v * 256 + b) bs
+
+-- the number that the bytes write, highest first
+abbrev pub numberOf : List ℕ → ℕ
+numberOf s = numberFrom 0 s
+
+-- the number in the n bytes of s from place at on
+abbrev pub numberAt : List ℕ → ℕ → ℕ → ℕ
+numberAt s at n = numberOf (part s at n)
+
+-- x in w bytes, highest first; what does not fit is dropped at the front
+unfoldable pub bytesOf : ℕ → ℕ → List ℕ
+bytesOf zero x = []
+bytesOf (suc w) x = bytesOf w (x / 256) ++ (x % 256 ∷ [])
+
+-- two texts are equal: as long, and byte for byte
+unfoldable pub same : List ℕ → List ℕ → Bool
+same [] [] = true
+same [] (y ∷ ys) = false
+same (x ∷ xs) [] = false
+same (x ∷ xs) (y ∷ ys) = eqb x y && same xs ys
+
+-- the order of two fields by their first differing byte
+unfoldable pub less : List ℕ → List ℕ → Bool
+less [] [] = false
+less [] (y ∷ ys) = true
+less (x ∷ xs) [] = false
+less (x ∷ xs) (y ∷ ys) = ltb x y || eqb x y && less xs ys
