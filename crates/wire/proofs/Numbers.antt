@@ -12,7 +12,7 @@ use lib.Arith.{digits-lt, digits-div, digits-mod, mod-mul}
 use lib.Pow.{mod-mod-pow}
 use lib.Dec.{lit<, lit≤, eqb, ltb}
 use lib.ListN.{length, getD, take, drop, length-append, length-take, length-drop, take-append-drop}
-use lib.Seq.{take-suc}
+use lib.Seq.{take-suc, getD-drop}
 use borrow.Author.Tests.{lt-ltb, le-ltb, eq-eqb, ne-eqb, ltb-true, ltb-false, eqb-true, eqb-false}
 use Rattle.wire.proofs.Texts.{take-bytes, drop-bytes, part-bytes, part-short}
 use Rattle.wire.proofs.Cases.{le-or-lt}
@@ -185,3 +185,12 @@ halves-read f high bytes short eh = ⊎-elim long little (le-or-lt 8 (length f))
         let none : high ≡ 0 = omega arith in
         let empty : numberOf (take high f) ≡ 0 = rw none in
         rw (empty, word-fits f bytes (omega arith)) (zero-add (numberOf f))
+
+-- a field of one byte
+first-read : (s : List ℕ) → numberOf (take 1 s) ≡ getD s 0 0
+unfolding numberFrom
+first-read [] = refl
+first-read (b ∷ bs) = rw (zero-mul, zero-add)
+
+pub one-read : (s : List ℕ) (at : ℕ) → numberAt s at 1 ≡ getD s at 0
+one-read s at = first-read (drop at s) ∙ getD-drop at s 0 0 ∙ ap (λ (k : ℕ). getD s k 0) (add-zero at)

@@ -1,0 +1,47 @@
+-- The definitions tried on single numbers, by computation: which of them are dates, and how many days after 1 January 2000 some dates lie.
+-- Of other numbers nothing is said here. Assumes nothing.
+use mathlib.Core.Path.{_≡_, refl}
+use mathlib.Core.Bool.{Bool, true, false}
+use mathlib.Core.List.{List, [], _∷_, map}
+use Prim.Native.Nat.{ℕ}
+use Rattle.calendar.specs.Date.{leap, daysIn, isDate, daysOfYears, daysOfMonths, dayNumber}
+
+pub dates : List (ℕ × Bool)
+dates =
+    (20240229, true)
+    ∷ (20230229, false)
+    ∷ (21000229, false)
+    ∷ (20000229, true)
+    ∷ (22991231, true)
+    ∷ (23000101, false)
+    ∷ (20000101, true)
+    ∷ (19991231, false)
+    ∷ (20260431, false)
+    ∷ (20261301, false)
+    ∷ (20260600, false)
+    ∷ (20260015, false)
+    ∷ (4294967295, false)
+    ∷ (0, false)
+    ∷ []
+
+pub datesRight : map (λ c. isDate (c .0)) dates ≡ map (λ c. c .1) dates
+unfolding dates isDate daysIn leap
+datesRight = refl
+
+-- across a leap day, the ends of a leap year and of a century that has none, and to the last date
+pub numbers : List (ℕ × ℕ)
+numbers =
+    (20000101, 0)
+    ∷ (20000229, 59)
+    ∷ (20000301, 60)
+    ∷ (20001231, 365)
+    ∷ (20010101, 366)
+    ∷ (20240229, 8825)
+    ∷ (21000228, 36583)
+    ∷ (21000301, 36584)
+    ∷ (22991231, 109572)
+    ∷ []
+
+pub numbersRight : map (λ c. dayNumber (c .0)) numbers ≡ map (λ c. c .1) numbers
+unfolding numbers dayNumber daysOfYears daysOfMonths daysIn leap
+numbersRight = refl

@@ -1,0 +1,130 @@
+-- The laws of the table and of the lookup that the crates above cite, and those that the proofs here share. Assumes nothing.
+use mathlib.Core.Path.{_≡_, refl, sym, ap, _∙_}
+use mathlib.Core.Logic.{⊎-elim}
+use mathlib.Core.Bool.{Bool, true, false, cond, not, _&&_, false≢true}
+use mathlib.Core.List.{List, [], _∷_, _++_}
+use mathlib.Core.Option.{Option, none, some}
+use Prim.Native.Nat.{ℕ, zero, suc, _+_, _-_, _*_, _/_, _≤_, _<_, min}
+use native.Mathlib.Nat.{sub-zero, zero-sub, suc-sub-suc, zero-add, add-sub-cancel-left}
+use native.Mathlib.Omega.{arith}
+use lib.Dec.{leb, eqb}
+use lib.ListN.{length, getD, take, drop, replicate, replicate-append-replicate, List·getD-eq-default}
+use lib.Seq.{sets, sets-eq, length-sets, take-at, take-append-add}
+use borrow.Author.Tests.{leb-true, eqb-true, eq-eqb, ne-eqb}
+use Rattle.wire.specs.Field.{part, numberAt, same}
+use Rattle.wire.specs.Places.{firstFrom, everyFrom}
+use Rattle.wire.proofs.Numbers.{one-read}
+use Rattle.wire.proofs.Texts.{part-short}
+use Rattle.wire.proofs.Scans.{first-found, first-here, first-more, first-ends}
+use Rattle.calendar.specs.Date.{isDate}
+use Rattle.routing.specs.Table.{rowAt, rowWidth, mostRows, rows, statedRows, knownKind, bicAt, kindAt, kindsKnown, wellFormed}
+use Rattle.routing.specs.Lookup.{counts, bears, rowOf, xxx, headOffice, isHeadOffice, route, refused, routed, lookup}
+
+-- ---- places
+
+-- a whole row lies in the table
+pub row-fits : (table : List ℕ) (i : ℕ) → i < rows table → rowAt i + rowWidth ≤ length table
+row-fits table i h = omega arith
+
+kind-read : (table : List ℕ) (i : ℕ) → kindAt table i ≡ getD table (rowAt i + 19) 0
+kind-read table i = one-read table (rowAt i + 19)
+
+-- past the last whole row there is no kind
+pub kind-past : (table : List ℕ) (i : ℕ) → rows table ≤ i → kindAt table i ≡ 0
+kind-past table i h = kind-read table i ∙ List·getD-eq-default table 0 (omega arith)
+
+pub kind-there : (table : List ℕ) (i : ℕ) → getD table (4 + 20 * i + 19) 0 ≡ kindAt table i
+kind-there table i = sym (kind-read table i)
+
+-- ---- the scan of the kinds
+
+-- a loop at place i of n: what is left of the scan
+abbrev pub kindsLeft : List ℕ → ℕ → ℕ → Bool
+kindsLeft table n i = everyFrom (λ k. knownKind (kindAt table k)) (n - i) i
+
+pub kinds-start : (table : List ℕ) (n : ℕ) → n ≡ rows table → kindsLeft table n 0 ≡ kindsKnown table
+unfolding kindsKnown
+kinds-start table n e = rw (e, sub-zero)
+
+-- ---- the search of a row
+
+abbrev pub rowLeft : ℕ → List ℕ → List ℕ → ℕ → ℕ → Option ℕ
+rowLeft date table bic n i = firstFrom (bears date table bic) (n - i) i
+
+pub row-start : (date : ℕ) (table bic : List ℕ) (n : ℕ) → n ≡ rows table → rowLeft date table bic n 0 ≡ rowOf date table bic
+unfolding rowOf
+row-start date table bic n e = rw (e, sub-zero)
+
+-- a row that does not bear the BIC need not be asked whether it counts
+module _ (date : ℕ) (table bic : List ℕ) (i : ℕ) (t : Bool) (tested : t ≡ same (take (rowAt i + 11 - rowAt i) (drop (rowAt i) table)) bic) where
+  named : t ≡ same (bicAt table i) bic
+  named = rw (add-sub-cancel-left (rowAt i) 11) at tested
+
+  pub bears-named : t ≡ true → counts date table i ≡ bears date table bic i
+  bears-named e = rw (← named, e)
+
+  pub bears-not-named : t ≡ false → false ≡ bears date table bic i
+  bears-not-named e = rw (← named, e)
+
+-- ---- the head office, written over a row of X
+
+drop-replicate : (k n a : ℕ) → drop k (replicate n a) ≡ replicate (n - k) a
+drop-replicate zero n a = rw sub-zero
+drop-replicate (suc k) zero a = rw zero-sub
+drop-replicate (suc k) (suc n) a = rw suc-sub-suc (drop-replicate k n a)
+
+three-left : (m a : ℕ) → 3 ≤ m → take 3 (replicate m a) ≡ a ∷ a ∷ a ∷ []
+three-left m a h =
+    let more : m ≡ 3 + (m - 3) = omega arith in
+    rw (more, ← (replicate-append-replicate 3 (m - 3) a)) (take-at (replicate 3 a) (replicate (3 + (m - 3) - 3) a) 3 refl)
+
+pub head-length : (bic front head : List ℕ) → front ≡ part bic 0 8 → head ≡ sets (replicate 11 88) 0 front → length front + 3 ≤ length head
+head-length bic front head ef eh =
+    let long : length head ≡ 11 = ap length eh ∙ length-sets (replicate 11 88) 0 front in
+    let short : length front ≤ 8 = rw ef (part-short bic 0 8) in
+    omega arith
+
+pub head-written : (bic front head : List ℕ) → front ≡ part bic 0 8 → head ≡ sets (replicate 11 88) 0 front
+    → take (length front + 3) head ≡ headOffice bic
+head-written bic front head ef eh =
+    let short : length front ≤ 8 = rw ef (part-short bic 0 8) in
+    ap (take (length front + 3)) (eh ∙ sets-eq front (replicate 11 88) 0 (omega arith))
+    ∙ take-append-add front (drop (0 + length front) (replicate 11 88)) 3
+    ∙ ap (λ (l : List ℕ). front ++ take 3 l) (ap (λ (k : ℕ). drop k (replicate 11 88)) (zero-add (length front)) ∙ drop-replicate (length front) 11 88)
+    ∙ ap (λ (l : List ℕ). front ++ l) (three-left (11 - length front) 88 (omega arith))
+    ∙ ap (λ (l : List ℕ). l ++ xxx) ef
+
+-- ---- the three ways of a route
+
+module _ (date : ℕ) (table bic : List ℕ) where
+  pub route-own : (i : ℕ) → some i ≡ rowOf date table bic → some i ≡ route date table bic
+  unfolding route
+  route-own i own = rw (← own)
+
+  pub route-nowhere : none ≡ rowOf date table bic → isHeadOffice bic ≡ true → none ≡ route date table bic
+  unfolding route
+  route-nowhere own head = rw (← own, head)
+
+  pub route-head : none ≡ rowOf date table bic → isHeadOffice bic ≡ false → rowOf date table (headOffice bic) ≡ route date table bic
+  unfolding route
+  route-head own head = rw (← own, head)
+
+  -- ---- the five ways of a question
+
+  pub lookup-date : isDate date ≡ false → refused 1 ≡ lookup date table bic
+  unfolding lookup
+  lookup-date e = rw e
+
+  module _ (dated : isDate date ≡ true) where
+    pub lookup-table : wellFormed table ≡ false → refused 2 ≡ lookup date table bic
+    unfolding lookup
+    lookup-table e = rw (dated, e)
+
+    module _ (formed : wellFormed table ≡ true) where
+      pub lookup-bic : (length bic ≡ 11 → ⊥) → refused 18 ≡ lookup date table bic
+      unfolding lookup
+      lookup-bic e = rw (dated, formed, ne-eqb (length bic) 11 e)
+
+      pub lookup-row : length bic ≡ 11 → (found : Option ℕ) → found ≡ route date table bic → routed table found ≡ lookup date table bic
+      unfolding lookup
+      lookup-row long found e = rw (dated, formed, eq-eqb (length bic) 11 long, e)

@@ -1,0 +1,25 @@
+-- `routing::route` meets its contract. Assumes nothing.
+use mathlib.Core.Path.{sym, ap, _∙_}
+use Rattle.routing.specs.Lookup.{optionOf}
+use Rattle.routing.proofs.Laws.{route-own, route-nowhere, route-head}
+use borrow.Author.Needs.{needs}
+use Rattle.routing.proofs.route.Statement.{statement}
+use Rattle.routing.proofs.route.Tie as tie
+
+returns : tie.Need-returns
+returns c =
+    let args = c .before .before .before .before .before .before .args in
+    route-own (args .date) (args .table .now) (args .bic .now) _ (ap optionOf (sym (c .before .own .given .1)) ∙ c .before .before .before .row-of .ensures)
+
+returns-2 : tie.Need-returns-2
+returns-2 c =
+    let args = c .before .before .before .before .before .before .before .before .before .args in
+    route-nowhere (args .date) (args .table .now) (args .bic .now) (ap optionOf (sym (c .before .before .before .before .enum-told .given .1)) ∙ c .before .before .before .before .before .before .row-of .ensures) (cc)
+
+returns-3 : tie.Need-returns-3
+returns-3 c =
+    let args = c .before .before .before .before .before .before .before .before .before .before .args in
+    c .head-office .ensures ∙ route-head (args .date) (args .table .now) (args .bic .now) (ap optionOf (sym (c .before .before .before .before .before .enum-told .given .1)) ∙ c .before .before .before .before .before .before .before .row-of .ensures) (cc)
+
+pub route-spec : {M : Type 1} → statement M
+route-spec = tie.close (tie.spec (λ c κs. search needs) (λ c. search needs) (λ c. search needs) (λ c κs. search needs) (λ c. search needs) (λ c κs. search needs) (λ c κs. search needs) returns returns-2 returns-3)
