@@ -18,6 +18,7 @@ use Rattle.wire.proofs.Texts.{part-short}
 use Rattle.wire.proofs.Scans.{first-found, first-here, first-more, first-ends}
 use Rattle.calendar.specs.Date.{isDate}
 use Rattle.routing.specs.Table.{rowAt, rowWidth, mostRows, rows, statedRows, knownKind, bicAt, kindAt, kindsKnown, wellFormed}
+use Rattle.routing.specs.Promise.{Formed, FormTold}
 use Rattle.routing.specs.Lookup.{counts, bears, rowOf, xxx, headOffice, isHeadOffice, route, refused, routed, lookup}
 
 -- ---- places
@@ -35,6 +36,28 @@ kind-past table i h = kind-read table i ∙ List·getD-eq-default table 0 (omega
 
 pub kind-there : (table : List ℕ) (i : ℕ) → getD table (4 + 20 * i + 19) 0 ≡ kindAt table i
 kind-there table i = sym (kind-read table i)
+
+-- a well formed table is its count, and as many whole rows
+form-told : (table : List ℕ) → wellFormed table ≡ true → Formed table
+unfolding wellFormed
+form-told table e =
+    let parts = three (leb 4 (length table)) (eqb (length table) (4 + rowWidth * statedRows table)) (leb (statedRows table) mostRows) (kindsKnown table) e in
+    let long : length table ≡ 4 + rowWidth * statedRows table = eqb-true (length table) (4 + rowWidth * statedRows table) (parts .0) in
+    let few : statedRows table ≤ mostRows = leb-true (statedRows table) mostRows (parts .1) in
+    let counted : rows table ≡ statedRows table = rw long (mul-left-then-div (statedRows table)) in
+    record { whole = rw counted long; few = rw counted few }
+  where
+    three : (a b c d : Bool) → (a && b && c && d) ≡ true → (b ≡ true) × (c ≡ true)
+    three true true true d e = (refl, refl)
+    three true true false d e = absurd (false≢true e)
+    three true false c d e = absurd (false≢true e)
+    three false b c d e = absurd (false≢true e)
+
+    mul-left-then-div : (k : ℕ) → (4 + rowWidth * k - 4) / rowWidth ≡ k
+    mul-left-then-div k = omega arith
+
+pub formed-told : (table : List ℕ) (told : Bool) → told ≡ wellFormed table → FormTold table told
+formed-told table told e = record { is = e; formed = λ h. form-told table (sym e ∙ h) }
 
 -- ---- the scan of the kinds
 

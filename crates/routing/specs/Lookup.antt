@@ -1,11 +1,11 @@
 -- The row of a BIC on a date, whether it is reachable, and what a question is answered with. Assumes nothing.
 use Prim.Native.Nat.{ℕ}
 use mathlib.Core.Bool.{Bool, true, false, cond, not, _&&_}
-use mathlib.Core.List.{List, [], _∷_, _++_}
+use mathlib.Core.List.{List, _++_}
 use mathlib.Core.Option.{Option, none, some}
 use lib.ListN.{length, take}
 use lib.Dec.{leb, eqb}
-use Rattle.wire.specs.Field.{part, same}
+use Rattle.wire.specs.Field.{text, part, same}
 use Rattle.wire.specs.Places.{firstFrom}
 use Rattle.calendar.specs.Date.{isDate}
 use Rattle.routing.specs.Table.{rows, bicWidth, bicAt, firstDate, lastDate, kindAt, wellFormed}
@@ -32,7 +32,7 @@ rowOf date table bic = firstFrom (bears date table bic) (rows table) 0
 
 -- XXX stands for the head office
 abbrev pub xxx : List ℕ
-xxx = 88 ∷ 88 ∷ 88 ∷ []
+xxx = text "XXX"
 
 abbrev pub headOffice : List ℕ → List ℕ
 headOffice bic = take 8 bic ++ xxx

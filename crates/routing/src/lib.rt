@@ -3,7 +3,8 @@
 ghost use mathlib.Core.Path.{_≡_};
 ghost use Prim.Native.Nat.{_+_, _≤_};
 ghost use lib.ListN.{length};
-ghost use Rattle.routing.specs.Table.{rowAt, rowWidth, rows, knownKind, kindAt, kindsKnown, wellFormed};
+ghost use Rattle.routing.specs.Table.{rowAt, rowWidth, rows, knownKind, kindAt, kindsKnown};
+ghost use Rattle.routing.specs.Promise.{FormTold, RowTold};
 ghost use Rattle.routing.specs.Lookup.{optionOf, counts, bears, rowOf, headOffice, route, valuesOf, lookup};
 
 // Why a question is turned away.
@@ -50,7 +51,7 @@ pub fn kind_at(table: &[u8], i: usize) -> u8
 
 // Whether the table has the form that its layout asks; if not, that is refusal 2.
 pub fn well_formed(table: &[u8]) -> bool
-    ensures { λ r. ⌜ r ≡ wellFormed (now (table .entry)) ⌝ }
+    ensures { λ r. ⌜ FormTold (now (table .entry)) r ⌝ }
 {
     let stated = wire::u32_at(table, 0) as usize;
     (4 <= table.len()) & (table.len() == 4 + 20 * stated) & (stated <= 8192) & kinds_known(table)
@@ -92,7 +93,7 @@ fn bears(date: u32, table: &[u8], bic: &[u8], i: usize) -> bool
 
 // The first row that counts on the date and bears the BIC.
 pub fn row_of(date: u32, table: &[u8], bic: &[u8]) -> Found
-    ensures { λ r. ⌜ optionOf r ≡ rowOf date (now (table .entry)) (now (bic .entry)) ⌝ }
+    ensures { λ r. ⌜ RowTold (now (table .entry)) (optionOf r) (rowOf date (now (table .entry)) (now (bic .entry))) ⌝ }
 {
     let n = rows(table);
     let mut i = 0;
@@ -107,7 +108,7 @@ pub fn row_of(date: u32, table: &[u8], bic: &[u8]) -> Found
 
 // The same for the head office: the first eight characters followed by XXX.
 pub fn head_office(date: u32, table: &[u8], bic: &[u8]) -> Found
-    ensures { λ r. ⌜ optionOf r ≡ rowOf date (now (table .entry)) (headOffice (now (bic .entry))) ⌝ }
+    ensures { λ r. ⌜ RowTold (now (table .entry)) (optionOf r) (rowOf date (now (table .entry)) (headOffice (now (bic .entry)))) ⌝ }
 {
     let mut head = [88u8; 11];
     let front = wire::text_at(bic, 0, 8);
@@ -118,7 +119,7 @@ pub fn head_office(date: u32, table: &[u8], bic: &[u8]) -> Found
 
 // The row of a BIC: its own, else that of its head office.
 pub fn route(date: u32, table: &[u8], bic: &[u8]) -> Found
-    ensures { λ r. ⌜ optionOf r ≡ route date (now (table .entry)) (now (bic .entry)) ⌝ }
+    ensures { λ r. ⌜ RowTold (now (table .entry)) (optionOf r) (route date (now (table .entry)) (now (bic .entry))) ⌝ }
 {
     let own = row_of(date, table, bic);
     match own {

@@ -1,5 +1,5 @@
-pub mod Cases
 pub mod Numbers
 pub mod Scans
+pub mod Sides
 pub mod Stores
 pub mod Texts

@@ -15,7 +15,7 @@ use lib.ListN.{length, getD, take, drop, length-append, length-take, length-drop
 use lib.Seq.{take-suc, getD-drop}
 use borrow.Author.Tests.{lt-ltb, le-ltb, eq-eqb, ne-eqb, ltb-true, ltb-false, eqb-true, eqb-false}
 use Rattle.wire.proofs.Texts.{take-bytes, drop-bytes, part-bytes, part-short}
-use Rattle.wire.proofs.Cases.{le-or-lt}
+use Rattle.wire.proofs.Sides.{le-or-lt}
 use Rattle.wire.specs.Field.{Bytes, part, numberFrom, numberOf, numberAt, bytesOf, same, less}
 
 -- ---- reading in pieces

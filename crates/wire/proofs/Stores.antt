@@ -9,7 +9,7 @@ use native.Mathlib.Omega.{arith}
 use lib.ListN.{length, getD, take, drop, set, drop-of-length-le}
 use lib.Seq.{sets, drop-cons, set-comm, set-out, sets-eq, take-at, drop-at, length-take-le, drop-set-add, drop-set-lt, take-set-le}
 use Rattle.wire.specs.Field.{part, bytesOf}
-use Rattle.wire.proofs.Cases.{le-or-lt}
+use Rattle.wire.proofs.Sides.{le-or-lt}
 use Rattle.wire.proofs.Numbers.{bytes-length, bytes-split}
 
 pub sets-append : (d : List ℕ) (at : ℕ) (xs ys : List ℕ) → sets d at (xs ++ ys) ≡ sets (sets d at xs) (at + length xs) ys

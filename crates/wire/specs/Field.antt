@@ -1,5 +1,7 @@
 -- Numbers and text in bytes. A byte is a number below 256, a field a run of bytes. Every definition is total: a part that runs past
 -- the end is what is left of it. Assumes nothing.
+use Prim.Native.Char.{code}
+use Prim.Native.String.{String, [] as end, _∷_ as _then_}
 use Prim.Native.Nat.{ℕ, zero, suc, _+_, _*_, _/_, _%_, _<_}
 use mathlib.Core.Bool.{Bool, true, false, _&&_, _||_}
 use mathlib.Core.List.{List, [], _∷_, _++_}
@@ -9,6 +11,11 @@ use lib.Dec.{eqb, ltb}
 -- each element is a byte
 abbrev pub Bytes : List ℕ → Type 0
 Bytes s = (i : ℕ) → getD s i 0 < 256
+
+-- the bytes of a quoted text
+abbrev pub text : String → List ℕ
+text end = []
+text (c then s) = code c ∷ text s
 
 -- the n bytes of s from place at on
 abbrev pub part : List ℕ → ℕ → ℕ → List ℕ

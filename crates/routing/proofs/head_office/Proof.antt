@@ -46,7 +46,11 @@ row-of-requires c κs = search needs
 returns : tie.Need-returns
 returns c =
     let args = c .before .before .before .before .before .before .before .before .args in
-    c .row-of .ensures ∙ ap (rowOf (args .date) (args .table .now)) (head-written (args .bic .now) _ _ (c .before .before .before .before .before .text-at .ensures) (c .before .before .before .put-text .ensures))
+    let head = head-written (args .bic .now) _ _ (c .before .before .before .before .before .text-at .ensures) (c .before .before .before .put-text .ensures) in
+    record {
+      is = c .row-of .ensures .is ∙ ap (rowOf (args .date) (args .table .now)) head;
+      within = c .row-of .ensures .within;
+    }
 
 pub head-office-spec : {M : Type 1} → statement M
 head-office-spec =

@@ -18,25 +18,25 @@ returns c =
 returns-2 : tie.Need-returns-2
 returns-2 c =
     let args = c .before .before .before .before .before .before .args in
-    lookup-table (args .date) (args .table .now) (args .bic .now) (sym (c .before .before .before .is-date .ensures) ∙ not-false _ (c .before .before .if1 .left)) (sym (c .before .well-formed .ensures) ∙ not-true _ (c .if2 .taken))
+    lookup-table (args .date) (args .table .now) (args .bic .now) (sym (c .before .before .before .is-date .ensures) ∙ not-false _ (c .before .before .if1 .left)) (sym (c .before .well-formed .ensures .is) ∙ not-true _ (c .if2 .taken))
 
 returns-3 : tie.Need-returns-3
 returns-3 c =
     let args = c .before .before .before .before .before .before .before .args in
-    lookup-bic (args .date) (args .table .now) (args .bic .now) (sym (c .before .before .before .before .is-date .ensures) ∙ not-false _ (c .before .before .before .if1 .left)) (sym (c .before .before .well-formed .ensures) ∙ not-false _ (c .before .if2 .left)) (c .if3 .taken)
+    lookup-bic (args .date) (args .table .now) (args .bic .now) (sym (c .before .before .before .before .is-date .ensures) ∙ not-false _ (c .before .before .before .if1 .left)) (sym (c .before .before .well-formed .ensures .is) ∙ not-false _ (c .before .if2 .left)) (c .if3 .taken)
 
 returns-4 : tie.Need-returns-4
 returns-4 c =
     let args = c .before .before .before .before .before .before .before .before .before .before .before .before .args in
-    let told = ap optionOf (sym (c .before .before .found .given .1)) ∙ c .before .before .before .before .route .ensures in
+    let told = ap optionOf (sym (c .before .before .found .given .1)) ∙ c .before .before .before .before .route .ensures .is in
     ap (λ (k : ℕ). rowIs (c .before .before .found .given .0 .0) (not (eqb k 0))) (c .kind-at .ensures)
-    ∙ lookup-row (args .date) (args .table .now) (args .bic .now) (sym (c .before .before .before .before .before .before .before .before .before .is-date .ensures) ∙ not-false _ (c .before .before .before .before .before .before .before .before .if1 .left)) (sym (c .before .before .before .before .before .before .before .well-formed .ensures) ∙ not-false _ (c .before .before .before .before .before .before .if2 .left)) (c .before .before .before .before .before .if3 .left) _ told
+    ∙ lookup-row (args .date) (args .table .now) (args .bic .now) (sym (c .before .before .before .before .before .before .before .before .before .is-date .ensures) ∙ not-false _ (c .before .before .before .before .before .before .before .before .if1 .left)) (sym (c .before .before .before .before .before .before .before .well-formed .ensures .is) ∙ not-false _ (c .before .before .before .before .before .before .if2 .left)) (c .before .before .before .before .before .if3 .left) _ told
 
 returns-5 : tie.Need-returns-5
 returns-5 c =
     let args = c .before .before .before .before .before .before .before .before .before .before .args in
-    let told = ap optionOf (sym (c .enum-told .given .1)) ∙ c .before .before .route .ensures in
-    lookup-row (args .date) (args .table .now) (args .bic .now) (sym (c .before .before .before .before .before .before .before .is-date .ensures) ∙ not-false _ (c .before .before .before .before .before .before .if1 .left)) (sym (c .before .before .before .before .before .well-formed .ensures) ∙ not-false _ (c .before .before .before .before .if2 .left)) (c .before .before .before .if3 .left) _ told
+    let told = ap optionOf (sym (c .enum-told .given .1)) ∙ c .before .before .route .ensures .is in
+    lookup-row (args .date) (args .table .now) (args .bic .now) (sym (c .before .before .before .before .before .before .before .is-date .ensures) ∙ not-false _ (c .before .before .before .before .before .before .if1 .left)) (sym (c .before .before .before .before .before .well-formed .ensures .is) ∙ not-false _ (c .before .before .before .before .if2 .left)) (c .before .before .before .if3 .left) _ told
 
 pub lookup-spec : {M : Type 1} → statement M
 lookup-spec = tie.close (tie.spec (λ c κs. search needs) returns (λ c κs. search needs) returns-2 returns-3 (λ c κs. search needs) (λ c. search needs) (λ c κs. search needs) (λ c. search needs) returns-4 returns-5)

@@ -9,17 +9,25 @@ use Rattle.routing.proofs.route.Tie as tie
 returns : tie.Need-returns
 returns c =
     let args = c .before .before .before .before .before .before .args in
-    route-own (args .date) (args .table .now) (args .bic .now) _ (ap optionOf (sym (c .before .own .given .1)) ∙ c .before .before .before .row-of .ensures)
+    let own = c .before .before .before .row-of .ensures in
+    let told = c .before .own .given .1 in
+    record {
+      is = route-own (args .date) (args .table .now) (args .bic .now) _ (ap optionOf (sym told) ∙ own .is);
+      within = rw told at (own .within);
+    }
 
 returns-2 : tie.Need-returns-2
 returns-2 c =
     let args = c .before .before .before .before .before .before .before .before .before .args in
-    route-nowhere (args .date) (args .table .now) (args .bic .now) (ap optionOf (sym (c .before .before .before .before .enum-told .given .1)) ∙ c .before .before .before .before .before .before .row-of .ensures) (cc)
+    let own = ap optionOf (sym (c .before .before .before .before .enum-told .given .1)) ∙ c .before .before .before .before .before .before .row-of .ensures .is in
+    record { is = route-nowhere (args .date) (args .table .now) (args .bic .now) own (cc); within = tt }
 
 returns-3 : tie.Need-returns-3
 returns-3 c =
     let args = c .before .before .before .before .before .before .before .before .before .before .args in
-    c .head-office .ensures ∙ route-head (args .date) (args .table .now) (args .bic .now) (ap optionOf (sym (c .before .before .before .before .before .enum-told .given .1)) ∙ c .before .before .before .before .before .before .before .row-of .ensures) (cc)
+    let own = ap optionOf (sym (c .before .before .before .before .before .enum-told .given .1)) ∙ c .before .before .before .before .before .before .before .row-of .ensures .is in
+    let head = c .head-office .ensures in
+    record { is = head .is ∙ route-head (args .date) (args .table .now) (args .bic .now) own (cc); within = head .within }
 
 pub route-spec : {M : Type 1} → statement M
 route-spec = tie.close (tie.spec (λ c κs. search needs) (λ c. search needs) (λ c. search needs) (λ c κs. search needs) (λ c. search needs) (λ c κs. search needs) (λ c κs. search needs) returns returns-2 returns-3)

@@ -22,7 +22,10 @@ returns : tie.Need-returns Inv-loop μ-loop
 returns c =
     let args = c .before .before .before .before .before .before .before .args in
     let loop = c .before .before .before .loop in
-    sym (first-here (bears (args .date) (args .table .now) (args .bic .now)) _ (loop .i) (c .before .before .loop-test .taken) (sym (c .before .bears .ensures) ∙ c .if1 .taken)) ∙ loop .inv .1
+    record {
+      is = sym (first-here (bears (args .date) (args .table .now) (args .bic .now)) _ (loop .i) (c .before .before .loop-test .taken) (sym (c .before .bears .ensures) ∙ c .if1 .taken)) ∙ loop .inv .1;
+      within = omega arith;
+    }
 
 loop-again : tie.Need-loop-again Inv-loop μ-loop
 loop-again c =
@@ -33,7 +36,7 @@ loop-again c =
 returns-2 : tie.Need-returns-2 Inv-loop μ-loop
 returns-2 c =
     let args = c .before .before .before .before .before .args in
-    sym (first-ends (bears (args .date) (args .table .now) (args .bic .now)) _ (c .before .loop .i) (c .loop-test .left)) ∙ c .before .loop .inv .1
+    record { is = sym (first-ends (bears (args .date) (args .table .now) (args .bic .now)) _ (c .before .loop .i) (c .loop-test .left)) ∙ c .before .loop .inv .1; within = tt }
 
 pub row-of-spec : {M : Type 1} → statement M
 row-of-spec = tie.close (tie.spec Inv-loop μ-loop (λ c κs. search needs) loop-holds (λ c κs. search needs) returns (λ c. search needs) (λ c. search needs) loop-again returns-2)

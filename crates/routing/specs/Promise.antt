@@ -1,0 +1,26 @@
+-- What the contracts say besides a function's value: facts that a crate above needs, so that it cites no proof of this one.
+use Prim.Native.Nat.{ℕ, _+_, _*_, _≤_, _<_}
+use mathlib.Core.Path.{_≡_}
+use mathlib.Core.Bool.{Bool, true}
+use mathlib.Core.List.{List}
+use mathlib.Core.Option.{Option, none, some}
+use lib.ListN.{length}
+use Rattle.routing.specs.Table.{rowWidth, mostRows, rows, wellFormed}
+
+-- the test of the form, and what a table that passes it is
+pub record Formed (table : List ℕ) : Type 0 where
+  pub whole : length table ≡ 4 + rowWidth * rows table
+  pub few : rows table ≤ mostRows
+
+pub record FormTold (table : List ℕ) (told : Bool) : Type 0 where
+  pub is : told ≡ wellFormed table
+  pub formed : told ≡ true → Formed table
+
+-- the place found, and that it is a row of the table
+abbrev pub Below : ℕ → Option ℕ → Type 0
+Below n none = Unit {0}
+Below n (some i) = i < n
+
+pub record RowTold (table : List ℕ) (told expected : Option ℕ) : Type 0 where
+  pub is : told ≡ expected
+  pub within : Below (rows table) told
