@@ -37,6 +37,8 @@ bank =
     ∷ row "BBBBLV22XXX" 20260101 20991231 6
     ∷ row "CCCCLV22XXX" 20260615 20260616 6
     ∷ row "CCCCLV22XXX" 20260101 20991231 0
+    ∷ row "BBBBLV22KUL" 20270101 20991231 0
+    ∷ row "EEEELV2XXXX" 20260101 20991231 5
     ∷ [])
 
 record Question : Type 0 where
@@ -61,6 +63,12 @@ questions =
     ∷ on 20260615 "BBBBLV22RIX" (rowIs 3 1)
     ∷ on 20251231 "BBBBLV22RIX" (rowIs 2 1)
     ∷ on 20260101 "BBBBLV22RIX" (rowIs 3 1)
+    -- an own row that does not count leaves the way to the head office open
+    ∷ on 20260615 "BBBBLV22KUL" (rowIs 4 1)
+    ∷ on 20270101 "BBBBLV22KUL" (rowIs 7 0)
+    -- all eleven characters are compared, and the last three are the ninth to the eleventh
+    ∷ on 20260615 "AAAALV22KUM" (rowIs 0 1)
+    ∷ on 20260615 "EEEELV2XXXR" (rowIs 8 1)
     -- both ends of a row's days, and the first row that counts wins
     ∷ on 20260615 "CCCCLV22XXX" (rowIs 5 1)
     ∷ on 20260616 "CCCCLV22XXX" (rowIs 5 1)
@@ -73,7 +81,11 @@ questions =
     -- the refusals in their order
     ∷ on 20230229 "AAAALV22" (refused 1)
     ∷ on 23000101 "AAAALV22XXX" (refused 1)
+    ∷ record { date = 20230229; table = []; bic = text "AAAALV22XXX"; answer = refused 1 }
+    ∷ record { date = 20260615; table = []; bic = text "AAAALV22"; answer = refused 2 }
     ∷ with [] (refused 2)
+    ∷ with (bytesOf 4 0 ++ row "AAAALV22XXX" 20260101 20991231 5) (refused 2)
+    ∷ with (tableOf (row "AAAALV22XXX" 20260101 20991231 7 ∷ [])) (refused 2)
     ∷ with (0 ∷ 0 ∷ 0 ∷ []) (refused 2)
     ∷ with (0 ∷ 0 ∷ 0 ∷ 0 ∷ []) missing
     ∷ with (255 ∷ 255 ∷ 255 ∷ 255 ∷ []) (refused 2)

@@ -1,31 +1,27 @@
--- The laws of the table and of the lookup that the crates above cite, and those that the proofs here share. Assumes nothing.
+-- The laws of the table and of the lookup that the proofs of this crate share. Assumes nothing.
 use mathlib.Core.Path.{_≡_, refl, sym, ap, _∙_}
-use mathlib.Core.Logic.{⊎-elim}
-use mathlib.Core.Bool.{Bool, true, false, cond, not, _&&_, false≢true}
+use mathlib.Core.Bool.{Bool, true, false, _&&_, false≢true}
 use mathlib.Core.List.{List, [], _∷_, _++_}
 use mathlib.Core.Option.{Option, none, some}
-use Prim.Native.Nat.{ℕ, zero, suc, _+_, _-_, _*_, _/_, _≤_, _<_, min}
+use Prim.Native.Nat.{ℕ, zero, suc, _+_, _-_, _*_, _/_, _≤_, _<_}
 use native.Mathlib.Nat.{sub-zero, zero-sub, suc-sub-suc, zero-add, add-sub-cancel-left}
 use native.Mathlib.Omega.{arith}
 use lib.Dec.{leb, eqb}
 use lib.ListN.{length, getD, take, drop, replicate, replicate-append-replicate, List·getD-eq-default}
 use lib.Seq.{sets, sets-eq, length-sets, take-at, take-append-add}
 use borrow.Author.Tests.{leb-true, eqb-true, eq-eqb, ne-eqb}
-use Rattle.wire.specs.Field.{part, numberAt, same}
+use Rattle.wire.specs.Field.{part, same}
 use Rattle.wire.specs.Places.{firstFrom, everyFrom}
 use Rattle.wire.proofs.Numbers.{one-read}
 use Rattle.wire.proofs.Texts.{part-short}
-use Rattle.wire.proofs.Scans.{first-found, first-here, first-more, first-ends}
 use Rattle.calendar.specs.Date.{isDate}
 use Rattle.routing.specs.Table.{rowAt, rowWidth, mostRows, rows, statedRows, knownKind, bicAt, kindAt, kindsKnown, wellFormed}
-use Rattle.routing.specs.Promise.{Formed, FormTold}
-use Rattle.routing.specs.Lookup.{counts, bears, rowOf, xxx, headOffice, isHeadOffice, route, refused, routed, lookup}
+use Rattle.routing.specs.Promise.{Formed, FormTold, Below}
+use Rattle.routing.specs.declared.Found.{Found}
+use Rattle.routing.specs.declared.Found.the-variants.{Row as FoundRow}
+use Rattle.routing.specs.Lookup.{counts, bears, rowOf, xxx, headOffice, isHeadOffice, route, refused, routed, lookup, optionOf}
 
 -- ---- places
-
--- a whole row lies in the table
-pub row-fits : (table : List ℕ) (i : ℕ) → i < rows table → rowAt i + rowWidth ≤ length table
-row-fits table i h = omega arith
 
 kind-read : (table : List ℕ) (i : ℕ) → kindAt table i ≡ getD table (rowAt i + 19) 0
 kind-read table i = one-read table (rowAt i + 19)
@@ -151,3 +147,7 @@ module _ (date : ℕ) (table bic : List ℕ) where
       pub lookup-row : length bic ≡ 11 → (found : Option ℕ) → found ≡ route date table bic → routed table found ≡ lookup date table bic
       unfolding lookup
       lookup-row long found e = rw (dated, formed, eq-eqb (length bic) 11 long, e)
+
+-- a row that was found is a row of the table
+pub row-below : (table : List ℕ) (found : Found) (i : ℕ) → found ≡ FoundRow i → Below (rows table) (optionOf found) → i < rows table
+row-below table found i e within = rw e at within

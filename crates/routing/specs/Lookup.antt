@@ -5,7 +5,7 @@ use mathlib.Core.List.{List, _++_}
 use mathlib.Core.Option.{Option, none, some}
 use lib.ListN.{length, take}
 use lib.Dec.{leb, eqb}
-use Rattle.wire.specs.Field.{text, part, same}
+use Rattle.wire.specs.Field.{bit, text, part, same}
 use Rattle.wire.specs.Places.{firstFrom}
 use Rattle.calendar.specs.Date.{isDate}
 use Rattle.routing.specs.Table.{rows, bicWidth, bicAt, firstDate, lastDate, kindAt, wellFormed}
@@ -65,9 +65,6 @@ pub record Routed : Type 0 where
 abbrev pub refused : ℕ → Routed
 refused n = record { number = n; found = 0; row = 0; reachable = 0 }
 
-abbrev pub bit : Bool → ℕ
-bit b = cond b 1 0
-
 abbrev pub missing : Routed
 missing = record { number = 0; found = 0; row = 0; reachable = 0 }
 
@@ -92,9 +89,12 @@ abbrev pub optionOf : Found → Option ℕ
 optionOf (FoundRow i) = some i
 optionOf Nothing = none
 
+abbrev pub refusalNumber : Refusal → ℕ
+refusalNumber Date = 1
+refusalNumber Table = 2
+refusalNumber Bic = 18
+
 abbrev pub valuesOf : Answer → Routed
-valuesOf (Refused Date) = refused 1
-valuesOf (Refused Table) = refused 2
-valuesOf (Refused Bic) = refused 18
+valuesOf (Refused r) = refused (refusalNumber r)
 valuesOf Missing = missing
 valuesOf (Row i b) = rowIs i b

@@ -6,6 +6,9 @@ use mathlib.Core.List.{List}
 use mathlib.Core.Option.{Option, none, some}
 use lib.ListN.{length}
 use Rattle.routing.specs.Table.{rowWidth, mostRows, rows, wellFormed}
+use Rattle.routing.specs.Lookup.{Routed, valuesOf}
+use Rattle.routing.specs.declared.Answer.{Answer}
+use Rattle.routing.specs.declared.Answer.the-variants.{Refused, Missing, Row}
 
 -- the test of the form, and what a table that passes it is
 pub record Formed (table : List ℕ) : Type 0 where
@@ -24,3 +27,14 @@ Below n (some i) = i < n
 pub record RowTold (table : List ℕ) (told expected : Option ℕ) : Type 0 where
   pub is : told ≡ expected
   pub within : Below (rows table) told
+
+-- the answer to a question, and that a row it names is a row of the table, of which there are few
+abbrev pub NamedBelow : ℕ → Answer → Type 0
+NamedBelow n (Refused r) = Unit {0}
+NamedBelow n Missing = Unit {0}
+NamedBelow n (Row i b) = i < n
+
+pub record AnswerTold (table : List ℕ) (told : Answer) (expected : Routed) : Type 0 where
+  pub is : valuesOf told ≡ expected
+  pub within : NamedBelow (rows table) told
+  pub small : NamedBelow mostRows told

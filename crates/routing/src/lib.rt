@@ -4,8 +4,14 @@ ghost use mathlib.Core.Path.{_≡_};
 ghost use Prim.Native.Nat.{_+_, _≤_};
 ghost use lib.ListN.{length};
 ghost use Rattle.routing.specs.Table.{rowAt, rowWidth, rows, knownKind, kindAt, kindsKnown};
-ghost use Rattle.routing.specs.Promise.{FormTold, RowTold};
-ghost use Rattle.routing.specs.Lookup.{optionOf, counts, bears, rowOf, headOffice, route, valuesOf, lookup};
+ghost use Rattle.routing.specs.Promise.{FormTold, RowTold, AnswerTold};
+ghost use Rattle.routing.specs.Lookup.{refusalNumber, optionOf, counts, bears, rowOf, headOffice, route, lookup};
+
+const ROW_WIDTH: usize = 20;
+
+const BIC_WIDTH: usize = 11;
+
+const MOST_ROWS: usize = 8192;
 
 // Why a question is turned away.
 pub enum Refusal {
@@ -31,7 +37,7 @@ pub enum Answer {
 pub fn rows(table: &[u8]) -> usize
     ensures { λ r. ⌜ r ≡ rows (now (table .entry)) ⌝ }
 {
-    (table.len() - wire::least(4, table.len())) / 20
+    (table.len() - wire::least(4, table.len())) / ROW_WIDTH
 }
 
 fn known_kind(kind: u8) -> bool
@@ -46,7 +52,7 @@ pub fn kind_at(table: &[u8], i: usize) -> u8
     if rows(table) <= i {
         return 0;
     }
-    table[4 + 20 * i + 19]
+    table[4 + ROW_WIDTH * i + 19]
 }
 
 // Whether the table has the form that its layout asks; if not, that is refusal 2.
@@ -54,7 +60,10 @@ pub fn well_formed(table: &[u8]) -> bool
     ensures { λ r. ⌜ FormTold (now (table .entry)) r ⌝ }
 {
     let stated = wire::u32_at(table, 0) as usize;
-    (4 <= table.len()) & (table.len() == 4 + 20 * stated) & (stated <= 8192) & kinds_known(table)
+    (4 <= table.len())
+        & (table.len() == 4 + ROW_WIDTH * stated)
+        & (stated <= MOST_ROWS)
+        & kinds_known(table)
 }
 
 fn kinds_known(table: &[u8]) -> bool
@@ -75,15 +84,16 @@ fn counts(date: u32, table: &[u8], i: usize) -> bool
     requires { ⌜ rowAt i + rowWidth ≤ length (now table) ⌝ }
     ensures { λ r. ⌜ r ≡ counts date (now (table .entry)) i ⌝ }
 {
-    (wire::u32_at(table, 4 + 20 * i + 11) <= date) & (date <= wire::u32_at(table, 4 + 20 * i + 15))
+    (wire::u32_at(table, 4 + ROW_WIDTH * i + 11) <= date)
+        & (date <= wire::u32_at(table, 4 + ROW_WIDTH * i + 15))
 }
 
 fn bears(date: u32, table: &[u8], bic: &[u8], i: usize) -> bool
     requires { ⌜ rowAt i + rowWidth ≤ length (now table) ⌝ }
     ensures { λ r. ⌜ r ≡ bears date (now (table .entry)) (now (bic .entry)) i ⌝ }
 {
-    let at = 4 + 20 * i;
-    let end = at + 11;
+    let at = 4 + ROW_WIDTH * i;
+    let end = at + BIC_WIDTH;
     if wire::same(&table[at..end], bic) {
         counts(date, table, i)
     } else {
@@ -110,7 +120,7 @@ pub fn row_of(date: u32, table: &[u8], bic: &[u8]) -> Found
 pub fn head_office(date: u32, table: &[u8], bic: &[u8]) -> Found
     ensures { λ r. ⌜ RowTold (now (table .entry)) (optionOf r) (rowOf date (now (table .entry)) (headOffice (now (bic .entry)))) ⌝ }
 {
-    let mut head = [88u8; 11];
+    let mut head = [88u8; BIC_WIDTH];
     let front = wire::text_at(bic, 0, 8);
     let n = front.len() + 3;
     wire::put_text(&mut head, 0, front);
@@ -136,7 +146,7 @@ pub fn route(date: u32, table: &[u8], bic: &[u8]) -> Found
 
 // The whole question, for a caller that has checked nothing.
 pub fn lookup(date: u32, table: &[u8], bic: &[u8]) -> Answer
-    ensures { λ r. ⌜ valuesOf r ≡ lookup date (now (table .entry)) (now (bic .entry)) ⌝ }
+    ensures { λ r. ⌜ AnswerTold (now (table .entry)) r (lookup date (now (table .entry)) (now (bic .entry))) ⌝ }
 {
     if !calendar::is_date(date) {
         return Answer::Refused(Refusal::Date);
@@ -144,7 +154,7 @@ pub fn lookup(date: u32, table: &[u8], bic: &[u8]) -> Answer
     if !well_formed(table) {
         return Answer::Refused(Refusal::Table);
     }
-    if bic.len() != 11 {
+    if bic.len() != BIC_WIDTH {
         return Answer::Refused(Refusal::Bic);
     }
     let found = route(date, table, bic);
@@ -154,5 +164,16 @@ pub fn lookup(date: u32, table: &[u8], bic: &[u8]) -> Answer
             reachable: kind_at(table, i) != 0,
         },
         Found::Nothing => Answer::Missing,
+    }
+}
+
+// The number of a refusal.
+pub fn number_of(refusal: Refusal) -> u32
+    ensures { λ r. ⌜ r ≡ refusalNumber refusal ⌝ }
+{
+    match refusal {
+        Refusal::Date => 1,
+        Refusal::Table => 2,
+        Refusal::Bic => 18,
     }
 }

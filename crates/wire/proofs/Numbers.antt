@@ -23,7 +23,7 @@ use Rattle.wire.specs.Field.{Bytes, part, numberFrom, numberOf, numberAt
 from-append : (v : ℕ) (xs ys : List ℕ) → numberFrom v (xs ++ ys) ≡ numberFrom (numberFrom v xs) ys
 unfolding numberFrom
 from-append v [] ys = refl
-from-append v (x ∷ xs) ys = from-append (v * 256 + x) xs ys
+from-append v (x ∷ xs) ys = from-append _ xs ys
 
 -- what stands before a field counts 256 times as much for each of its bytes
 from-zero : (v : ℕ) (s : List ℕ) → numberFrom v s ≡ v * 256 ^ length s + numberOf s
@@ -67,7 +67,7 @@ number-below (b ∷ bs) h =
 pub bytes-length : (w x : ℕ) → length (bytesOf w x) ≡ w
 unfolding bytesOf
 bytes-length zero x = refl
-bytes-length (suc w) x = length-append (bytesOf w (x / 256)) (x % 256 ∷ []) ∙ (rw (bytes-length w (x / 256)) (add-one w))
+bytes-length (suc w) x = length-append (bytesOf w _) (_ ∷ []) ∙ (rw (bytes-length w _) (add-one w))
 
 -- ---- the round trip: a number written and read is what of it fits the width, a field read and written is itself
 

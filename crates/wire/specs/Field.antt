@@ -3,7 +3,7 @@
 use Prim.Native.Char.{code}
 use Prim.Native.String.{String, [] as end, _∷_ as _then_}
 use Prim.Native.Nat.{ℕ, zero, suc, _+_, _*_, _/_, _%_, _<_}
-use mathlib.Core.Bool.{Bool, true, false, _&&_, _||_}
+use mathlib.Core.Bool.{Bool, true, false, cond, _&&_, _||_}
 use mathlib.Core.List.{List, [], _∷_, _++_}
 use lib.ListN.{take, drop, getD}
 use lib.Dec.{eqb, ltb}
@@ -11,6 +11,10 @@ use lib.Dec.{eqb, ltb}
 -- each element is a byte
 abbrev pub Bytes : List ℕ → Type 0
 Bytes s = (i : ℕ) → getD s i 0 < 256
+
+-- a truth value as a number
+abbrev pub bit : Bool → ℕ
+bit b = cond b 1 0
 
 -- the bytes of a quoted text
 abbrev pub text : String → List ℕ
