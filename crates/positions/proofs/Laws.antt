@@ -1,0 +1,216 @@
+-- The laws of an amount moved that the crates above cite, and those that the proofs here share. Assumes nothing.
+use mathlib.Core.Path.{_≡_, sym, ap, _∙_}
+use mathlib.Core.Logic.{⊎-elim}
+use mathlib.Core.Bool.{Bool, true, false}
+use mathlib.Core.List.{List, [], _∷_, _++_}
+use Prim.Native.Nat.{ℕ, zero, suc, _+_, _-_, _*_, _/_, _%_, _^_, _≤_, _<_}
+use native.Mathlib.Nat.{zero-add, sub-zero, mod-lt, div-add-mod', pow-le-pow-right}
+use native.Mathlib.Omega.{arith}
+use lib.Dec.{lit<, leb}
+use lib.ListN.{length, take, drop, set, length-append, take-append-drop}
+use lib.Seq.{sets, sets-eq, length-sets, length-take-le, drop-at, take-add}
+use borrow.Author.Tests.{leb-true, le-leb, lt-leb, lt-ltb, le-ltb}
+use Rattle.wire.specs.Field.{Bytes, part, numberOf, bytesOf}
+use Rattle.wire.specs.Places.{everyFrom}
+use Rattle.wire.proofs.Numbers.{bytes-length, bytes-split, written-read, read-written, number-below}
+use Rattle.wire.proofs.Scans.{every-holds}
+use Rattle.wire.proofs.Sides.{le-or-lt}
+use Rattle.wire.proofs.Stores.{part-stored, part-before, part-after}
+use Rattle.wire.proofs.Texts.{part-bytes, part-length}
+use Rattle.positions.specs.Positions.{positionWidth, positionPlace, HasRow, positionAt, magnitude, mostPosition, hasRoom, roomForAll, gains, loses, pays}
+
+-- ---- numbers and stores, once over the width
+
+-- what passes the width is dropped
+pub bytes-mod : (w x : ℕ) → bytesOf w (x % 256 ^ w) ≡ bytesOf w x
+unfolding bytesOf
+bytes-mod w x =
+    let below : x % 256 ^ w < 256 ^ w = mod-lt x (pow-le-pow-right (lit< tt) {i = 0} {j = w} (omega arith)) in
+    sym (
+    ap (bytesOf w) (sym (div-add-mod' x (256 ^ w)))
+    ∙ ap (λ (n : ℕ). bytesOf n (x / 256 ^ w * 256 ^ w + x % 256 ^ w)) (sym (zero-add w))
+    ∙ bytes-split 0 w (x / 256 ^ w) (x % 256 ^ w) below)
+
+-- what stands past a store
+past-store : (d : List ℕ) (at : ℕ) (xs : List ℕ) → at + length xs ≤ length d → drop (at + length xs) (sets d at xs) ≡ drop (at + length xs) d
+past-store d at xs h =
+    let front : length (take at d) ≡ at = length-take-le at d (omega arith) in
+    ap (drop (at + length xs)) (sets-eq xs d at h)
+    ∙ drop-at (take at d ++ xs) (drop (at + length xs) d) (at + length xs) (simp length-append (omega arith))
+
+-- a store over another of the same width
+pub sets-over : (d : List ℕ) (at : ℕ) (xs ys : List ℕ) → length xs ≡ length ys → at + length ys ≤ length d
+    → sets (sets d at xs) at ys ≡ sets d at ys
+sets-over d at xs ys equal h =
+    sets-eq ys (sets d at xs) at (rw (length-sets d at xs) h)
+    ∙ (rw (part-before d at xs 0 at (omega arith), ← equal, past-store d at xs (omega arith), equal))
+    ∙ sym (sets-eq ys d at h)
+
+pub sets-same : (d : List ℕ) (at n : ℕ) → at + n ≤ length d → sets d at (part d at n) ≡ d
+sets-same d at n h =
+    let wide : length (part d at n) ≡ n = part-length d at n h in
+    sets-eq (part d at n) d at (omega arith)
+    ∙ (rw (wide, ← (take-add at n d)) (take-append-drop (at + n) d))
+
+-- ---- bytes stay bytes
+
+append-bytes : (xs ys : List ℕ) → Bytes xs → Bytes ys → Bytes (xs ++ ys)
+append-bytes [] ys hx hy i = hy i
+append-bytes (x ∷ xs) ys hx hy zero = hx 0
+append-bytes (x ∷ xs) ys hx hy (suc i) = append-bytes xs ys (λ k. hx (suc k)) hy i
+
+pub written-bytes : (w x : ℕ) → Bytes (bytesOf w x)
+unfolding bytesOf
+written-bytes zero x i = lit< tt
+written-bytes (suc w) x i = append-bytes (bytesOf w (x / 256)) (x % 256 ∷ []) (written-bytes w (x / 256)) last i
+  where
+    last : Bytes (x % 256 ∷ [])
+    last zero = mod-lt x (lit< tt)
+    last (suc i) = lit< tt
+
+set-bytes : (d : List ℕ) (at x : ℕ) → Bytes d → x < 256 → Bytes (set d at x)
+set-bytes [] at x hd hx i = hd i
+set-bytes (y ∷ d) zero x hd hx zero = hx
+set-bytes (y ∷ d) zero x hd hx (suc i) = hd (suc i)
+set-bytes (y ∷ d) (suc at) x hd hx zero = hd 0
+set-bytes (y ∷ d) (suc at) x hd hx (suc i) = set-bytes d at x (λ k. hd (suc k)) hx i
+
+pub sets-bytes : (d : List ℕ) (at : ℕ) (xs : List ℕ) → Bytes d → Bytes xs → Bytes (sets d at xs)
+sets-bytes d at [] hd hx = hd
+sets-bytes d at (x ∷ xs) hd hx = sets-bytes (set d at x) (suc at) xs (set-bytes d at x hd (hx 0)) (λ k. hx (suc k))
+
+-- ---- an amount moved: the row, and the others
+
+pub position-below : (p : List ℕ) (i : ℕ) → Bytes p → HasRow p i → positionAt p i < 2 ^ 64
+position-below p i bytes row =
+    rw (part-length p (positionPlace i) positionWidth row)
+    at (number-below (part p (positionPlace i) positionWidth) (part-bytes p (positionPlace i) positionWidth bytes))
+
+-- what a row reads as once a number is stored there, and another row
+stored-here : (p : List ℕ) (i x : ℕ) → HasRow p i
+    → positionAt (sets p (positionPlace i) (bytesOf positionWidth x)) i ≡ x % 2 ^ 64
+stored-here p i x row =
+    ap numberOf (part-stored p (positionPlace i) positionWidth (bytesOf positionWidth x) (bytes-length positionWidth x) row)
+    ∙ written-read positionWidth x
+
+stored-other : (p : List ℕ) (i x j : ℕ) → (i ≡ j → ⊥) → positionAt (sets p (positionPlace i) (bytesOf positionWidth x)) j ≡ positionAt p j
+stored-other p i x j differ =
+    let wide : length (bytesOf positionWidth x) ≡ positionWidth = bytes-length positionWidth x in
+    ap numberOf (⊎-elim
+    (λ (h : i ≤ j). part-after p (positionPlace i) (bytesOf positionWidth x) (positionPlace j) positionWidth (omega (arith, differ)))
+    (λ (h : j < i). part-before p (positionPlace i) (bytesOf positionWidth x) (positionPlace j) positionWidth (omega arith))
+    (le-or-lt i j))
+
+stored-over : (p : List ℕ) (i x y : ℕ) → HasRow p i
+    → sets (sets p (positionPlace i) (bytesOf positionWidth x)) (positionPlace i) (bytesOf positionWidth y) ≡ sets p (positionPlace i) (bytesOf positionWidth y)
+stored-over p i x y row =
+    let wide : length (bytesOf positionWidth x) ≡ positionWidth = bytes-length positionWidth x in
+    let wide' : length (bytesOf positionWidth y) ≡ positionWidth = bytes-length positionWidth y in
+    sets-over p (positionPlace i) (bytesOf positionWidth x) (bytesOf positionWidth y) (omega arith) (omega arith)
+
+-- what was read there, stored again
+stored-same : (p : List ℕ) (i : ℕ) → Bytes p → HasRow p i → sets p (positionPlace i) (bytesOf positionWidth (positionAt p i)) ≡ p
+stored-same p i bytes row =
+    let field : List ℕ = part p (positionPlace i) positionWidth in
+    ap (sets p (positionPlace i)) (rw (part-length p (positionPlace i) positionWidth row) at (read-written field (part-bytes p (positionPlace i) positionWidth bytes)))
+    ∙ sets-same p (positionPlace i) positionWidth row
+
+module _ (p : List ℕ) (i c : ℕ) where
+  pub gains-length : length (gains p i c) ≡ length p
+  unfolding gains
+  gains-length = length-sets p (positionPlace i) (bytesOf positionWidth (positionAt p i + c))
+
+  pub loses-length : length (loses p i c) ≡ length p
+  unfolding loses
+  loses-length = length-sets p (positionPlace i) (bytesOf positionWidth (positionAt p i + (2 ^ 64 - c)))
+
+  pub gains-bytes : Bytes p → Bytes (gains p i c)
+  unfolding gains
+  gains-bytes bytes = sets-bytes p (positionPlace i) (bytesOf positionWidth (positionAt p i + c)) bytes (written-bytes positionWidth (positionAt p i + c))
+
+  pub loses-bytes : Bytes p → Bytes (loses p i c)
+  unfolding loses
+  loses-bytes bytes =
+      sets-bytes p (positionPlace i) (bytesOf positionWidth (positionAt p i + (2 ^ 64 - c))) bytes (written-bytes positionWidth (positionAt p i + (2 ^ 64 - c)))
+
+  pub gains-other : (j : ℕ) → (i ≡ j → ⊥) → positionAt (gains p i c) j ≡ positionAt p j
+  unfolding gains
+  gains-other j differ = stored-other p i (positionAt p i + c) j differ
+
+  pub loses-other : (j : ℕ) → (i ≡ j → ⊥) → positionAt (loses p i c) j ≡ positionAt p j
+  unfolding loses
+  loses-other j differ = stored-other p i (positionAt p i + (2 ^ 64 - c)) j differ
+
+  module _ (row : HasRow p i) where
+    pub gains-here : positionAt (gains p i c) i ≡ (positionAt p i + c) % 2 ^ 64
+    unfolding gains
+    gains-here = stored-here p i (positionAt p i + c) row
+
+    pub loses-here : positionAt (loses p i c) i ≡ (positionAt p i + (2 ^ 64 - c)) % 2 ^ 64
+    unfolding loses
+    loses-here = stored-here p i (positionAt p i + (2 ^ 64 - c)) row
+
+    -- a row that pays itself ends as it began
+    pub moved-back : Bytes p → c ≤ 2 ^ 64 → pays p i i c ≡ p
+    unfolding gains loses
+    moved-back bytes small =
+        let x : ℕ = positionAt p i in
+        let low : x < 2 ^ 64 = position-below p i bytes row in
+        let less : ℕ = x + (2 ^ 64 - c) in
+        let more : ℕ = less % 2 ^ 64 + c in
+        let again : more % 2 ^ 64 ≡ x = omega arith in
+        ap (λ (n : ℕ). sets (sets p (positionPlace i) (bytesOf positionWidth less)) (positionPlace i) (bytesOf positionWidth (n + c))) loses-here
+        ∙ stored-over p i less more row
+        ∙ ap (sets p (positionPlace i)) (sym (bytes-mod positionWidth more) ∙ ap (bytesOf positionWidth) again)
+        ∙ stored-same p i bytes row
+
+-- ---- the same numbers as the code has them: wrapped already
+
+pub gain-stored : (p : List ℕ) (i c held w : ℕ) → held ≡ positionAt p i → w ≡ (held + c) % 2 ^ 64
+    → sets p (positionPlace i) (bytesOf positionWidth w) ≡ gains p i c
+unfolding gains
+gain-stored p i c held w eh ew = rw (ew, eh, bytes-mod positionWidth (positionAt p i + c))
+
+pub loss-stored : (p : List ℕ) (i c held w : ℕ) → held ≡ positionAt p i → (w + c) % 2 ^ 64 ≡ held → w < 2 ^ 64 → c ≤ 2 ^ 64
+    → sets p (positionPlace i) (bytesOf positionWidth w) ≡ loses p i c
+unfolding loses
+loss-stored p i c held w eh back below small =
+    let wrapped : w ≡ (held + (2 ^ 64 - c)) % 2 ^ 64 = omega arith in
+    rw (wrapped, eh, bytes-mod positionWidth (positionAt p i + (2 ^ 64 - c)))
+
+-- ---- magnitude
+
+pub magnitude-low : (x : ℕ) → x < 2 ^ 63 → magnitude x ≡ x
+magnitude-low x h = rw (lt-ltb x (2 ^ 63) h)
+
+pub magnitude-high : (x : ℕ) → 2 ^ 63 ≤ x → magnitude x ≡ 2 ^ 64 - x
+magnitude-high x h = rw (le-ltb x (2 ^ 63) h)
+
+-- ---- room
+
+module _ (p : List ℕ) (c i : ℕ) where
+  pub room-told : hasRoom p c i ≡ true → magnitude (positionAt p i) + c ≤ mostPosition
+  room-told h = leb-true (magnitude (positionAt p i) + c) mostPosition h
+
+  pub room-none : mostPosition < c → false ≡ hasRoom p c i
+  room-none h = sym (lt-leb (magnitude (positionAt p i) + c) mostPosition (omega arith))
+
+  -- the test without a sum that could wrap
+  pub room-test : (held : ℕ) → held ≡ magnitude (positionAt p i) → c ≤ mostPosition → leb held (mostPosition - c) ≡ hasRoom p c i
+  room-test held e small = rw (← e) (⊎-elim
+      (λ (h : held + c ≤ mostPosition). le-leb held (mostPosition - c) (omega arith) ∙ sym (le-leb (held + c) mostPosition h))
+      (λ (h : mostPosition < held + c). lt-leb held (mostPosition - c) (omega arith) ∙ sym (lt-leb (held + c) mostPosition h))
+      (le-or-lt (held + c) mostPosition))
+
+  -- room for all is room at each row
+  pub room-each : roomForAll p c ≡ true → HasRow p i → hasRoom p c i ≡ true
+  unfolding roomForAll
+  room-each all row = every-holds (hasRoom p c) (length p / positionWidth) 0 i all (omega arith) (omega arith)
+
+-- a loop at row i of n: what is left of the scan
+abbrev pub roomLeft : List ℕ → ℕ → ℕ → ℕ → Bool
+roomLeft p c n i = everyFrom (hasRoom p c) (n - i) i
+
+pub room-start : (p : List ℕ) (c : ℕ) → roomLeft p c (length p / positionWidth) 0 ≡ roomForAll p c
+unfolding roomForAll
+room-start p c = rw sub-zero

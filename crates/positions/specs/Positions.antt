@@ -1,0 +1,54 @@
+-- Positions: 8 bytes for each row of the table, a signed number of cents in two's complement. Assumes nothing.
+use Prim.Native.Nat.{ℕ, _+_, _-_, _*_, _/_, _^_, _≤_}
+use mathlib.Core.Bool.{Bool, cond}
+use mathlib.Core.List.{List}
+use lib.ListN.{length}
+use lib.Seq.{sets}
+use lib.Dec.{leb, ltb}
+use lib.IntN.{ℤ, pos, _-ℤ_}
+use Rattle.wire.specs.Field.{numberAt, bytesOf}
+use Rattle.wire.specs.Places.{everyFrom}
+
+abbrev pub positionWidth : ℕ
+positionWidth = 8
+
+abbrev pub positionPlace : ℕ → ℕ
+positionPlace i = positionWidth * i
+
+-- row i lies in the positions
+abbrev pub HasRow : List ℕ → ℕ → Type 0
+HasRow positions i = positionPlace i + positionWidth ≤ length positions
+
+-- the position of row i, as its 64 bits
+abbrev pub positionAt : List ℕ → ℕ → ℕ
+positionAt positions i = numberAt positions (positionPlace i) positionWidth
+
+-- the whole number that 64 bits in two's complement stand for
+abbrev pub signed : ℕ → ℤ
+signed bits = cond (ltb bits (2 ^ 63)) (pos bits) (pos bits -ℤ pos (2 ^ 64))
+
+-- what it lies away from 0
+abbrev pub magnitude : ℕ → ℕ
+magnitude bits = cond (ltb bits (2 ^ 63)) bits (2 ^ 64 - bits)
+
+-- what no position may come to pass
+abbrev pub mostPosition : ℕ
+mostPosition = 10 ^ 18
+
+-- row i could take so many cents more, either way
+abbrev pub hasRoom : List ℕ → ℕ → ℕ → Bool
+hasRoom positions cents i = leb (magnitude (positionAt positions i) + cents) mostPosition
+
+unfoldable pub roomForAll : List ℕ → ℕ → Bool
+roomForAll positions cents = everyFrom (hasRoom positions cents) (length positions / positionWidth) 0
+
+-- row i with so many cents more, or less: bytesOf drops what passes 64 bits, as two's complement does
+unfoldable pub gains : List ℕ → ℕ → ℕ → List ℕ
+gains positions i cents = sets positions (positionPlace i) (bytesOf positionWidth (positionAt positions i + cents))
+
+unfoldable pub loses : List ℕ → ℕ → ℕ → List ℕ
+loses positions i cents = sets positions (positionPlace i) (bytesOf positionWidth (positionAt positions i + (2 ^ 64 - cents)))
+
+-- a payment from one row to another, or to itself
+abbrev pub pays : List ℕ → ℕ → ℕ → ℕ → List ℕ
+pays positions sender receiver cents = gains (loses positions sender cents) receiver cents

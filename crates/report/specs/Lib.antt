@@ -1,0 +1,3 @@
+pub mod Tally
+pub mod Room
+pub mod Line

@@ -1,0 +1,201 @@
+-- The laws that the proofs of the tests share, and those that crates above may cite. Assumes nothing.
+use mathlib.Core.Path.{_≡_, refl, sym, ap, _∙_}
+use mathlib.Core.Bool.{Bool, true, false, cond, not, _&&_, _||_, false≢true, and-true, and-false, and-assoc, or-false}
+use mathlib.Core.List.{List, [], _∷_, _++_}
+use Prim.Native.Nat.{ℕ, suc, _+_, _-_, _*_, _≤_, _<_}
+use native.Mathlib.Nat.{sub-zero}
+use native.Mathlib.Numerals.{add-one}
+use native.Mathlib.Omega.{arith}
+use lib.Dec.{leb, eqb, eqb·suc-zero, lit≤}
+use lib.ListN.{length, getD, take, drop, length-take, drop-of-length-le, List·getD-eq-default}
+use lib.Seq.{take-suc, drop-cons}
+use borrow.Author.Tests.{le-leb, lt-leb, ne-eqb}
+use Rattle.wire.specs.Field.{part, same}
+use Rattle.wire.specs.Places.{everyFrom}
+use Rattle.wire.proofs.Texts.{same-equal}
+use Rattle.wire.proofs.Scans.{every-holds, every-fails, every-more, every-ends}
+use Rattle.wording.specs.Wording.{upper, digit, upperOrDigit, among, allowed, kept, space, isSpace, isSlash, has, every, apart, mostCharacters, formed, oneOf, reasons}
+
+-- ---- characters
+
+-- the set as the runs of codes that it lies in
+abbrev pub inRuns : ℕ → Bool
+inRuns c =
+    leb 65 c && leb c 90
+    || leb 97 c && leb c 122
+    || leb 43 c && leb c 58
+    || leb 39 c && leb c 41
+    || eqb c 63
+    || eqb c 32
+
+abbrev agree : Bool → Bool → Bool
+agree a b = cond a b (not b)
+
+agree-equal : (a b : Bool) → agree a b ≡ true → a ≡ b
+agree-equal true true e = refl
+agree-equal true false e = sym e
+agree-equal false true e = e
+agree-equal false false e = refl
+
+-- of all 256 bytes, by computing
+everyByte : everyFrom (λ c. agree (inRuns c) (allowed c)) 256 0 ≡ true
+unfolding everyFrom allowed among
+everyByte = refl
+
+pub runs-allowed : (c : ℕ) → c < 256 → inRuns c ≡ allowed c
+runs-allowed c byte =
+    agree-equal (inRuns c) (allowed c)
+    (every-holds (λ k. agree (inRuns k) (allowed k)) 256 0 c everyByte (omega arith) (omega arith))
+
+-- ---- trailing spaces
+
+-- a space at the end leaves what was left without it
+kept-space : (s : List ℕ) → kept (s ++ (space ∷ [])) ≡ kept s
+unfolding kept
+kept-space [] = refl
+kept-space (c ∷ cs) = rw (kept-space cs)
+
+-- anything else at the end leaves all
+kept-other : (s : List ℕ) (c : ℕ) → (c ≡ space → ⊥) → kept (s ++ (c ∷ [])) ≡ suc (length s)
+unfolding kept
+kept-other [] c other = rw (ne-eqb c space other)
+kept-other (x ∷ xs) c other = rw (kept-other xs c other, eqb·suc-zero (length xs))
+
+-- the last of the first n
+last-taken : (s : List ℕ) (n : ℕ) → 0 < n → n ≤ length s → take n s ≡ take (n - 1) s ++ (getD s (n - 1) 0 ∷ [])
+last-taken s n some within =
+    let next : n ≡ suc (n - 1) = omega arith in
+    let inside : n - 1 < length s = omega arith in
+    ap (λ (k : ℕ). take k s) next ∙ take-suc s (n - 1) 0 inside
+
+module _ (s : List ℕ) (n : ℕ) (some : 0 < n) (within : n ≤ length s) where
+  pub kept-more : getD s (n - 1) 0 ≡ space → kept (take (n - 1) s) ≡ kept (take n s)
+  kept-more e = sym (ap kept (last-taken s n some within ∙ (rw e)) ∙ kept-space (take (n - 1) s))
+
+  pub kept-here : (getD s (n - 1) 0 ≡ space → ⊥) → n ≡ kept (take n s)
+  kept-here other =
+      sym (ap kept (last-taken s n some within)
+      ∙ kept-other (take (n - 1) s) (getD s (n - 1) 0) other
+      ∙ (rw (length-take (n - 1) s) (omega arith)))
+
+pub kept-none : (s : List ℕ) (n : ℕ) → n ≤ 0 → 0 ≡ kept (take n s)
+unfolding kept
+kept-none s n h = let none : n ≡ 0 = omega arith in rw none
+
+pub kept-within : (s : List ℕ) → kept s ≤ length s
+unfolding kept
+kept-within [] = lit≤ tt
+kept-within (c ∷ cs) = by-test (kept cs) (kept-within cs) (eqb (kept cs) 0 && isSpace c)
+  where
+    by-test : (k : ℕ) → k ≤ length cs → (t : Bool) → cond t 0 (suc k) ≤ suc (length cs)
+    by-test k h true = omega arith
+    by-test k h false = omega arith
+
+-- ---- identifiers
+
+-- a loop at place i, with a slash just before or not: what is left of the two scans
+abbrev pub runLeft : List ℕ → Bool → ℕ → Bool
+runLeft t after i = every allowed t i (length t) && not (after && has isSlash t i) && everyFrom (apart t) (length t - i) i
+
+apart-next : (t : List ℕ) (i : ℕ) → i < length t
+    → everyFrom (apart t) (length t - i) i ≡ (not (has isSlash t i && has isSlash t (i + 1)) && everyFrom (apart t) (length t - (i + 1)) (i + 1))
+unfolding everyFrom
+apart-next t i h = let left : length t - i ≡ suc (length t - (i + 1)) = omega arith in rw (left, add-one i)
+
+module _ (t : List ℕ) (after : Bool) (i : ℕ) where
+  pub run-ends : length t ≤ i → true ≡ runLeft t after i
+  run-ends h =
+      let past : getD t i 0 ≡ 0 = List·getD-eq-default t 0 h in
+      sym (rw (every-ends (has allowed t) (length t) i h, every-ends (apart t) (length t) i h, past, and-false after))
+
+  module _ (h : i < length t) where
+    pub run-other : has allowed t i ≡ false → false ≡ runLeft t after i
+    run-other e = sym (rw (every-fails (has allowed t) (length t) i h e))
+
+    pub run-second : (after && has isSlash t i) ≡ true → false ≡ runLeft t after i
+    run-second e = sym (rw (e, and-false (every allowed t i (length t))))
+
+    pub run-more : has allowed t i ≡ true → (after && has isSlash t i) ≡ false → runLeft t (has isSlash t i) (i + 1) ≡ runLeft t after i
+    run-more here single = rw (single, every-more (has allowed t) (length t) i h here, apart-next t i h, and-true, and-assoc)
+
+-- the tests before the loop
+abbrev pub edges : List ℕ → Bool
+edges t = has isSpace t 0 || has isSlash t 0 || has isSlash t (length t - 1)
+
+module _ (t : List ℕ) where
+  pub formed-empty : length t ≡ 0 → false ≡ formed t
+  unfolding formed
+  formed-empty e = sym (rw e)
+
+  pub formed-long : mostCharacters < length t → false ≡ formed t
+  unfolding formed
+  formed-long h = sym (rw (lt-leb (length t) mostCharacters h, and-false))
+
+  pub formed-edge : edges t ≡ true → false ≡ formed t
+  unfolding formed
+  formed-edge e =
+      sym (by-test (leb 1 (length t) && leb (length t) mostCharacters && every allowed t 0 (length t))
+      (has isSpace t 0) (has isSlash t 0) (has isSlash t (length t - 1)) (everyFrom (apart t) (length t) 0) e)
+    where
+      by-test : (a s l z b : Bool) → (s || l || z) ≡ true → (a && not s && not l && not z && b) ≡ false
+      by-test a true l z b e = rw (and-false a)
+      by-test a false true z b e = rw (and-false (a && true))
+      by-test a false false true b e = rw (and-false (a && true && true))
+      by-test a false false false b e = absurd (false≢true e)
+
+  pub formed-run : 1 ≤ length t → length t ≤ mostCharacters → edges t ≡ false → runLeft t false 0 ≡ formed t
+  unfolding formed
+  formed-run some few e =
+      rw (sub-zero, le-leb 1 (length t) some, le-leb (length t) mostCharacters few)
+      (by-test (everyFrom (has allowed t) (length t) 0)
+      (has isSpace t 0) (has isSlash t 0) (has isSlash t (length t - 1)) (everyFrom (apart t) (length t) 0) e)
+    where
+      by-test : (a s l z b : Bool) → (s || l || z) ≡ false → (a && true && b) ≡ (a && not s && not l && not z && b)
+      by-test a true l z b e = absurd (false≢true (sym e))
+      by-test a false true z b e = absurd (false≢true (sym e))
+      by-test a false false true b e = absurd (false≢true (sym e))
+      by-test a false false false b e = simp and-true
+
+-- ---- BICs
+
+pub letter : (digits : Bool) (c : ℕ) → (upper c || digits && digit c) ≡ cond digits upperOrDigit upper c
+letter true c = refl
+letter false c = or-false (upper c)
+
+-- ---- one of several texts
+
+-- a loop at text i of ts, with what the comparison there said
+module _ (s : List ℕ) (ts : List (List ℕ)) (i : ℕ) where
+  one-of-next : i < length ts → oneOf s (drop i ts) ≡ (same s (getD ts i []) || oneOf s (drop (i + 1) ts))
+  unfolding oneOf
+  one-of-next h = rw (add-one i, drop-cons ts i [] h)
+
+  pub one-of-ends : length ts ≤ i → false ≡ oneOf s (drop i ts)
+  unfolding oneOf
+  one-of-ends h = sym (rw (drop-of-length-le ts h))
+
+  module _ (h : i < length ts) (told : Bool) (tested : told ≡ same s (getD ts i [])) where
+    pub one-of-here : told ≡ true → true ≡ oneOf s (drop i ts)
+    one-of-here e = sym (one-of-next h ∙ (rw (← tested, e)))
+
+    pub one-of-more : told ≡ false → oneOf s (drop (i + 1) ts) ≡ oneOf s (drop i ts)
+    one-of-more e = sym (one-of-next h ∙ (rw (← tested, e)))
+
+-- the reasons one after another, four characters each
+abbrev pub joined : List (List ℕ) → List ℕ
+joined [] = []
+joined (t ∷ ts) = t ++ joined ts
+
+reasonIs : ℕ → Bool
+reasonIs i = same (part (joined reasons) (4 * i) 4) (getD reasons i [])
+
+everyReason : everyFrom reasonIs (length reasons) 0 ≡ true
+unfolding everyFrom reasonIs same
+everyReason = refl
+
+pub reason-at : (s code : List ℕ) (told : Bool) (i : ℕ) → i < length reasons → code ≡ part (joined reasons) (4 * i) 4 → told ≡ same s code
+    → told ≡ same s (getD reasons i [])
+unfolding reasonIs
+reason-at s code told i h cut tested =
+    let here : reasonIs i ≡ true = every-holds reasonIs (length reasons) 0 i everyReason (omega arith) (omega arith) in
+    tested ∙ ap (same s) (cut ∙ same-equal (part (joined reasons) (4 * i) 4) (getD reasons i []) here)
