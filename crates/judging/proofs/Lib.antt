@@ -1,0 +1,12 @@
+pub mod Amounts
+pub mod Cases
+pub mod Checking
+pub mod Demands
+pub mod Loops
+pub mod Rounds
+pub mod Sections
+pub mod Sums
+pub mod Verdicts
+pub mod Walks
+pub mod Whole
+pub mod Widths

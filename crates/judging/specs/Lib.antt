@@ -1,0 +1,4 @@
+pub mod Judgement
+pub mod Refusals
+pub mod Outcome
+pub mod Ready

@@ -1,0 +1,61 @@
+-- The outcome of a call as one record: the answer, and every byte that it leaves. Assumes nothing.
+use Prim.Native.Nat.{ℕ}
+use mathlib.Core.Bool.{Bool, cond}
+use mathlib.Core.List.{List, _++_}
+use lib.Seq.{sets}
+use lib.Dec.{eqb}
+use Rattle.wire.specs.Field.{bytesOf}
+use Rattle.sheet.specs.Sheet.{bulkCount, messageCount, bulksOf}
+use Rattle.report.specs.Line.{reportLength}
+use Rattle.judging.specs.Judgement.{State, JudgedBulks, judgeBulks}
+use Rattle.judging.specs.Refusals.{Call, numberOf, refusal}
+use Rattle.judging.specs.declared.Answer.{Answer}
+use Rattle.judging.specs.declared.Answer.the-variants.{Refused, Judged}
+
+pub record Outcome : Type 0 where
+  pub number : ℕ
+  pub length : ℕ
+  pub register : List ℕ
+  pub positions : List ℕ
+  pub report : List ℕ
+
+-- a refusal changes no byte
+abbrev pub turnedAway : ℕ → Call → Outcome
+turnedAway n call =
+    record { number = n; length = 0; register = call .register; positions = call .positions; report = call .report }
+
+-- the judgement of all the call's bulks
+abbrev pub judgement : Call → JudgedBulks
+judgement call = judgeBulks (call .date) (call .table) (bulksOf (call .sheet)) (record { register = call .register; positions = call .positions })
+
+-- the bulk lines after their count, then the sections
+abbrev pub reportOf : ℕ → JudgedBulks → List ℕ
+reportOf bulks judged = bytesOf 4 bulks ++ judged .lines ++ judged .sections
+
+abbrev pub judgedOf : Call → JudgedBulks → Outcome
+judgedOf call judged =
+    record {
+      number = 0;
+      length = reportLength (bulkCount (call .sheet)) (messageCount (call .sheet));
+      register = judged .after .register;
+      positions = judged .after .positions;
+      report = sets (call .report) 0 (reportOf (bulkCount (call .sheet)) judged);
+    }
+
+unfoldable pub outcome : Call → Outcome
+outcome call = cond (eqb (refusal call) 0) (judgedOf call (judgement call)) (turnedAway (refusal call) call)
+
+-- ---- the document's number and length for each case of the answer
+
+abbrev pub answerNumber : Answer → ℕ
+answerNumber (Refused r) = numberOf r
+answerNumber (Judged n) = 0
+
+abbrev pub answerLength : Answer → ℕ
+answerLength (Refused r) = 0
+answerLength (Judged n) = n
+
+-- an answer and the bytes that were left, as an outcome
+abbrev pub left : Answer → List ℕ → List ℕ → List ℕ → Outcome
+left answer register positions report =
+    record { number = answerNumber answer; length = answerLength answer; register = register; positions = positions; report = report }
