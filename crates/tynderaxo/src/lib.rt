@@ -1,0 +1,69 @@
+// The doors for C: the proved judge and the proved lookup under C's calling convention, and nothing else. A caller owes what
+// include/tynderaxo.h says: pointers that are valid for their lengths, and buffers that do not overlap.
+ghost use mathlib.Core.Path.{_≡_};
+ghost use Rattle.judging.specs.Outcome.{outcome};
+ghost use Rattle.judging.specs.Ready.{callOf};
+ghost use Rattle.routing.specs.Lookup.{lookup};
+ghost use Rattle.tynderaxo.specs.Doors.{leftBy, routedBy};
+use routing::Answer;
+
+// A refusal's number and the length 0, or 0 and the report's length.
+#[repr(C)]
+pub struct TynderaxoAnswer {
+    pub number: u32,
+    pub length: u64,
+}
+
+// A refusal's number, or 0 with whether a row was found, its place, and whether it is reachable.
+#[repr(C)]
+pub struct TynderaxoRoute {
+    pub number: u32,
+    pub found: u32,
+    pub row: u32,
+    pub reachable: u32,
+}
+
+#[no_mangle]
+pub extern "C" fn tynderaxo_judge(
+    date: u32,
+    sheet: &[u8],
+    table: &[u8],
+    register: &mut [u8],
+    positions: &mut [u8],
+    report: &mut [u8],
+) -> TynderaxoAnswer
+    ensures { λ r. ⌜ leftBy r (now (register .exit)) (now (positions .exit)) (now (report .exit)) ≡ outcome (callOf date (now (sheet .entry)) (now (table .entry)) (now (register .entry)) (now (positions .entry)) (now (report .entry))) ⌝ }
+{
+    let answer = judging::judge(date, sheet, table, register, positions, report);
+    TynderaxoAnswer {
+        number: judging::number_of(answer),
+        length: judging::length_of(answer) as u64,
+    }
+}
+
+#[no_mangle]
+pub extern "C" fn tynderaxo_lookup(date: u32, table: &[u8], bic: &[u8]) -> TynderaxoRoute
+    ensures { λ r. ⌜ routedBy r ≡ lookup date (now (table .entry)) (now (bic .entry)) ⌝ }
+{
+    let answer = routing::lookup(date, table, bic);
+    match answer {
+        Answer::Refused(refusal) => TynderaxoRoute {
+            number: routing::number_of(refusal),
+            found: 0,
+            row: 0,
+            reachable: 0,
+        },
+        Answer::Missing => TynderaxoRoute {
+            number: 0,
+            found: 0,
+            row: 0,
+            reachable: 0,
+        },
+        Answer::Row { place, reachable } => TynderaxoRoute {
+            number: 0,
+            found: 1,
+            row: place as u32,
+            reachable: reachable as u32,
+        },
+    }
+}

@@ -1,0 +1,75 @@
+/*
+ * Tynderaxo: judges a payment file, already taken apart into a sheet, before it goes to clearing.
+ *
+ * What a caller owes, for both functions:
+ *   - each pointer is valid for the length beside it: for reading where it is const, else for reading and writing;
+ *   - no two buffers overlap;
+ *   - a buffer of length 0 may be a null pointer.
+ * Nothing else is asked: the buffers may hold any bytes and have any lengths, and what does not fit is answered.
+ *
+ * All numbers inside the buffers are big-endian.
+ */
+#ifndef TYNDERAXO_H
+#define TYNDERAXO_H
+
+#include <stddef.h>
+#include <stdint.h>
+
+#ifdef __cplusplus
+extern "C" {
+#endif
+
+/*
+ * number: 0 if the file was judged, else why it was turned away: the first in this list that holds.
+ * length: the bytes of report written; 0 with any refusal, and then reg, positions and report keep every byte.
+ *
+ *    1  the date is no Gregorian day from 20000101 to 22991231
+ *    2  the table's length does not fit its count, it has over 8,192 rows, or a row's kind is not 0, 5, 6 or 20
+ *    3  the positions are not 8 bytes for each row
+ *    4  the register is not 4 + 44c bytes with c at most 60,000, or claims more than c entries
+ *    5  the sheet ends early or goes on too long
+ *    6  over 999 bulks or over 15,000 messages
+ *    7  a bulk's kind is neither 1 nor 3
+ *    8  a bulk of kind 1 stands after one of kind 3
+ *    9  the register has fewer free entries than the sheet has bulks and messages
+ *   10  some position could leave the range of 10^18 cents
+ *   11  the report is shorter than 4 + 68 bytes a bulk + 38 bytes a message
+ */
+typedef struct {
+    uint32_t number;
+    uint64_t length;
+} tynderaxo_answer;
+
+/*
+ * Judges the sheet on the date (as the number YYYYMMDD). Where it is judged, accepted identifiers are added to the
+ * register, accepted amounts move between positions, and the report's first `length` bytes hold the outcome; report
+ * bytes after those, and register entries not yet in use, stay as they were.
+ */
+tynderaxo_answer tynderaxo_judge(uint32_t date,
+                                 const uint8_t *sheet, size_t sheet_len,
+                                 const uint8_t *table, size_t table_len,
+                                 uint8_t *reg, size_t reg_len,
+                                 uint8_t *positions, size_t positions_len,
+                                 uint8_t *report, size_t report_len);
+
+/*
+ * number:    0 if the table was searched; 1 or 2 as above; 18 if the BIC is not 11 bytes long.
+ * found:     1 if a row counts for the BIC, else 0.
+ * row:       that row's number, from 0; 0 where none was found.
+ * reachable: 1 if a row was found and its kind is not 0, else 0.
+ * With any refusal the last three are 0.
+ */
+typedef struct {
+    uint32_t number, found, row, reachable;
+} tynderaxo_route;
+
+/* Finds the row a receiver's BIC goes by on the date: its own row, else its head office's XXX row. Writes nothing. */
+tynderaxo_route tynderaxo_lookup(uint32_t date,
+                                 const uint8_t *table, size_t table_len,
+                                 const uint8_t *bic, size_t bic_len);
+
+#ifdef __cplusplus
+}
+#endif
+
+#endif
