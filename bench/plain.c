@@ -1,0 +1,317 @@
+/*
+ * A judge as a C programmer would write it from document 01: one pass, plain searches, memcmp, no proofs.
+ * The benchmark measures the proved judge against it, and it stands in for the archive when the comparer is tested.
+ */
+#include "plain.h"
+
+#include <stdbool.h>
+#include <string.h>
+
+__extension__ typedef unsigned __int128 wide;
+
+enum {
+    HEADER = 65, MESSAGE = 81, ROW = 20, ENTRY = 44, BULK_LINE = 64, POSITION = 8,
+    IDENTIFIER = 35, SENDER = 8, BIC = 11,
+    MOST_ROWS = 8192, MOST_ENTRIES = 60000, MOST_BULKS = 999, MOST_MESSAGES = 15000,
+    PAYMENTS = 1, RETURNS = 3, PARTICIPANT = 5, TAG_MESSAGE = 1, TAG_BULK = 2, NO_ROW = -1
+};
+static const uint64_t MOST_CENTS = 99999999999u;
+static const uint64_t MOST_POSITION = 1000000000000000000u;
+
+/* Where the fields stand in their records. */
+enum { H_IDENTIFIER = 1, H_SENDER = 36, H_NUMBER = 44, H_SUM = 52, H_DATE = 60, H_MARKS = 64 };
+enum { M_RECEIVER = 35, M_AMOUNT = 46, M_ORIGINAL = 54, M_REASON = 62, M_NAME = 66 };
+
+static uint32_t get32(const uint8_t *p) {
+    return (uint32_t)p[0] << 24 | (uint32_t)p[1] << 16 | (uint32_t)p[2] << 8 | p[3];
+}
+
+static uint64_t get64(const uint8_t *p) { return (uint64_t)get32(p) << 32 | get32(p + 4); }
+
+static uint8_t *put(uint8_t *p, wide value, int width) {
+    for (int i = width - 1; i >= 0; i--, value >>= 8) p[i] = (uint8_t)value;
+    return p + width;
+}
+
+static uint8_t *put_text(uint8_t *p, const uint8_t *text, size_t width) {
+    memcpy(p, text, width);
+    return p + width;
+}
+
+/* ---- refusals ---- */
+
+static bool is_date(uint32_t date) {
+    static const uint8_t days[] = {31, 28, 31, 30, 31, 30, 31, 31, 30, 31, 30, 31};
+    uint32_t year = date / 10000, month = date / 100 % 100, day = date % 100;
+    if (year < 2000 || year > 2299 || month < 1 || month > 12) return false;
+    bool leap = year % 4 == 0 && (year % 100 != 0 || year % 400 == 0);
+    return day >= 1 && day <= days[month - 1] + (uint32_t)(month == 2 && leap);
+}
+
+static bool table_stands(const uint8_t *table, size_t len) {
+    if (len < 4) return false;
+    uint64_t rows = get32(table);
+    if (len != 4 + ROW * rows || rows > MOST_ROWS) return false;
+    for (size_t i = 0; i < rows; i++) {
+        uint8_t kind = table[4 + ROW * i + 19];
+        if (kind != 0 && kind != 5 && kind != 6 && kind != 20) return false;
+    }
+    return true;
+}
+
+static bool register_stands(const uint8_t *reg, size_t len) {
+    return len >= 4 && (len - 4) % ENTRY == 0 && (len - 4) / ENTRY <= MOST_ENTRIES && get32(reg) <= (len - 4) / ENTRY;
+}
+
+/* Counts bulks and messages of a whole sheet; false where it ends early or goes on. */
+static bool measure(const uint8_t *sheet, size_t len, uint64_t *bulks, uint64_t *messages) {
+    if (len < 4) return false;
+    uint64_t left = len - 4;
+    *bulks = get32(sheet);
+    *messages = 0;
+    if (left < HEADER * *bulks) return false;
+    left -= HEADER * *bulks;
+    for (uint64_t b = 0; b < *bulks; b++) {
+        if (left < 4) return false;
+        uint64_t count = get32(sheet + len - left);
+        left -= 4;
+        if (left < MESSAGE * count) return false;
+        left -= MESSAGE * count;
+        *messages += count;
+    }
+    return left == 0;
+}
+
+static uint32_t kinds_refused(const uint8_t *headers, uint64_t bulks) {
+    bool falls = false;
+    for (uint64_t b = 0; b < bulks; b++) {
+        uint8_t kind = headers[HEADER * b];
+        if (kind != PAYMENTS && kind != RETURNS) return 7;
+        if (b > 0 && kind < headers[HEADER * (b - 1)]) falls = true;
+    }
+    return falls ? 8 : 0;
+}
+
+static bool positions_stand(const uint8_t *positions, size_t len, uint64_t messages) {
+    for (size_t at = 0; at < len; at += POSITION) {
+        uint64_t bits = get64(positions + at);
+        uint64_t magnitude = bits >> 63 ? 0 - bits : bits;
+        if (magnitude > MOST_POSITION - messages * MOST_CENTS) return false;
+    }
+    return true;
+}
+
+/* ---- routing ---- */
+
+static uint8_t kind_of(const uint8_t *table, long row) { return table[4 + ROW * (size_t)row + 19]; }
+
+static long first_row(const uint8_t *table, uint32_t date, const uint8_t bic[BIC]) {
+    uint32_t rows = get32(table);
+    for (uint32_t i = 0; i < rows; i++) {
+        const uint8_t *row = table + 4 + ROW * (size_t)i;
+        if (memcmp(row, bic, BIC) == 0 && get32(row + 11) <= date && date <= get32(row + 15)) return i;
+    }
+    return NO_ROW;
+}
+
+static long head_office_row(const uint8_t *table, uint32_t date, const uint8_t eight[SENDER]) {
+    uint8_t bic[BIC];
+    memcpy(bic, eight, SENDER);
+    memcpy(bic + SENDER, "XXX", 3);
+    return first_row(table, date, bic);
+}
+
+static long receiver_row(const uint8_t *table, uint32_t date, const uint8_t bic[BIC]) {
+    long row = first_row(table, date, bic);
+    if (row != NO_ROW || memcmp(bic + SENDER, "XXX", 3) == 0) return row;
+    return head_office_row(table, date, bic);
+}
+
+tynderaxo_route plain_lookup(uint32_t date, const uint8_t *table, size_t table_len, const uint8_t *bic, size_t bic_len) {
+    tynderaxo_route route = {0, 0, 0, 0};
+    if (!is_date(date)) route.number = 1;
+    else if (!table_stands(table, table_len)) route.number = 2;
+    else if (bic_len != BIC) route.number = 18;
+    if (route.number != 0) return route;
+    long row = receiver_row(table, date, bic);
+    if (row == NO_ROW) return route;
+    return (tynderaxo_route){0, 1, (uint32_t)row, kind_of(table, row) != 0};
+}
+
+/* ---- faults ---- */
+
+static bool letter(uint8_t c) { return c >= 'A' && c <= 'Z'; }
+static bool digit(uint8_t c) { return c >= '0' && c <= '9'; }
+static bool in_set(uint8_t c) {
+    return letter(c) || digit(c) || (c >= 'a' && c <= 'z') || (c != 0 && strchr("/-?:().,'+ ", c) != NULL);
+}
+
+static bool badly_formed(const uint8_t *identifier) {
+    int length = IDENTIFIER;
+    while (length > 0 && identifier[length - 1] == ' ') length--;
+    if (length == 0 || identifier[0] == ' ' || identifier[0] == '/' || identifier[length - 1] == '/') return true;
+    for (int i = 0; i < length; i++) {
+        if (!in_set(identifier[i])) return true;
+        if (i > 0 && identifier[i] == '/' && identifier[i - 1] == '/') return true;
+    }
+    return false;
+}
+
+static bool bad_bic(const uint8_t *bic) {
+    for (int i = 0; i < BIC; i++) {
+        bool country = i == 4 || i == 5;
+        if (!letter(bic[i]) && (country || !digit(bic[i]))) return true;
+    }
+    return false;
+}
+
+static bool known_reason(const uint8_t *reason) {
+    static const char reasons[] = "AC01AC04AC06AG01AG02AM05BE04CNORFOCRMD07MS02MS03RC01RR01RR02RR03RR04";
+    for (int i = 0; i < 17; i++)
+        if (memcmp(reason, reasons + 4 * i, 4) == 0) return true;
+    return false;
+}
+
+static bool known_name(const uint8_t *name) {
+    return memcmp(name, "pacs.008.001.08", 15) == 0 || memcmp(name, "pacs.008.001.02", 15) == 0;
+}
+
+static bool blank(const uint8_t *text, size_t len) {
+    for (size_t i = 0; i < len; i++)
+        if (text[i] != ' ') return false;
+    return true;
+}
+
+static void make_entry(uint8_t entry[ENTRY], const uint8_t *sender, const uint8_t *identifier, uint8_t tag) {
+    memcpy(entry, sender, SENDER);
+    memcpy(entry + SENDER, identifier, IDENTIFIER);
+    entry[ENTRY - 1] = tag;
+}
+
+static bool stands(const uint8_t *reg, const uint8_t entry[ENTRY]) {
+    uint32_t used = get32(reg);
+    for (uint32_t i = 0; i < used; i++)
+        if (memcmp(reg + 4 + ENTRY * (size_t)i, entry, ENTRY) == 0) return true;
+    return false;
+}
+
+static void record(uint8_t *reg, const uint8_t entry[ENTRY]) {
+    uint32_t used = get32(reg);
+    memcpy(reg + 4 + ENTRY * (size_t)used, entry, ENTRY);
+    put(reg, used + 1, 4);
+}
+
+/* One bulk with all that its messages are judged by. */
+typedef struct {
+    uint32_t date;
+    const uint8_t *table, *header, *messages;
+    uint32_t count;
+    long sender_row;
+    uint8_t *reg, *positions;
+} bulk;
+
+static uint16_t bulk_faults(const bulk *b, const uint8_t entry[ENTRY]) {
+    const uint8_t *header = b->header;
+    wide sum = 0;
+    for (uint32_t i = 0; i < b->count; i++) sum += get64(b->messages + MESSAGE * (size_t)i + M_AMOUNT);
+    return (uint16_t)((header[H_MARKS] != 3) << 0
+                    | (b->sender_row == NO_ROW || kind_of(b->table, b->sender_row) != PARTICIPANT) << 1
+                    | (get32(header + H_DATE) != b->date) << 2
+                    | badly_formed(header + H_IDENTIFIER) << 3
+                    | stands(b->reg, entry) << 4
+                    | (b->count == 0) << 5
+                    | (get64(header + H_NUMBER) != b->count) << 6
+                    | (get64(header + H_SUM) != sum) << 7);
+}
+
+static uint16_t message_faults(const bulk *b, const uint8_t *message, const uint8_t entry[ENTRY], long row) {
+    uint64_t amount = get64(message + M_AMOUNT), original = get64(message + M_ORIGINAL);
+    const uint8_t *reason = message + M_REASON, *name = message + M_NAME;
+    bool payment = b->header[0] == PAYMENTS, returned = b->header[0] == RETURNS;
+    return (uint16_t)(badly_formed(message) << 0
+                    | stands(b->reg, entry) << 1
+                    | bad_bic(message + M_RECEIVER) << 2
+                    | (row == NO_ROW || kind_of(b->table, row) == 0) << 3
+                    | (amount < 1 || amount > MOST_CENTS) << 4
+                    | (payment && (original != 0 || !blank(reason, 4) || !blank(name, 15))) << 5
+                    | (returned && !known_reason(reason)) << 6
+                    | (returned && !known_name(name)) << 7
+                    | (returned && amount != original) << 8);
+}
+
+/* ---- judging ---- */
+
+static void move_cents(uint8_t *positions, long row, uint64_t cents) {
+    uint8_t *position = positions + POSITION * (size_t)row;
+    put(position, get64(position) + cents, POSITION);
+}
+
+/* Judges one bulk; writes its line, then its message lines after their count. Returns where the next section goes. */
+static uint8_t *judge_bulk(bulk *b, uint8_t *line, uint8_t *section) {
+    const uint8_t *sender = b->header + H_SENDER;
+    uint8_t own[ENTRY], entry[ENTRY];
+    make_entry(own, sender, b->header + H_IDENTIFIER, TAG_BULK);
+    b->sender_row = head_office_row(b->table, b->date, sender);
+    uint16_t faults = bulk_faults(b, own);
+    uint32_t accepted = 0;
+    wide accepted_cents = 0, rejected_cents = 0;
+    section = put(section, b->count, 4);
+    for (uint32_t i = 0; i < b->count; i++) {
+        const uint8_t *message = b->messages + MESSAGE * (size_t)i;
+        uint64_t amount = get64(message + M_AMOUNT);
+        long row = receiver_row(b->table, b->date, message + M_RECEIVER);
+        make_entry(entry, sender, message, TAG_MESSAGE);
+        uint16_t own_faults = message_faults(b, message, entry, row);
+        int outcome = faults != 0 ? 2 : own_faults != 0 ? 1 : 0;
+        if (outcome == 0) {
+            record(b->reg, entry);
+            move_cents(b->positions, b->sender_row, 0 - amount);
+            move_cents(b->positions, row, amount);
+            accepted += 1;
+            accepted_cents += amount;
+        } else {
+            rejected_cents += amount;
+        }
+        section = put_text(section, message, IDENTIFIER);
+        section = put(section, (wide)outcome, 1);
+        section = put(section, own_faults, 2);
+    }
+    if (accepted > 0) record(b->reg, own);
+    line = put_text(line, b->header + H_IDENTIFIER, IDENTIFIER);
+    line = put(line, accepted == 0 ? 2 : accepted < b->count, 1);
+    line = put(line, faults, 2);
+    line = put(line, accepted, 4);
+    line = put(line, accepted_cents, 8);
+    line = put(line, b->count - accepted, 4);
+    put(line, rejected_cents, 10);
+    return section;
+}
+
+tynderaxo_answer plain_judge(uint32_t date, const uint8_t *sheet, size_t sheet_len, const uint8_t *table,
+                             size_t table_len, uint8_t *reg, size_t reg_len, uint8_t *positions,
+                             size_t positions_len, uint8_t *report, size_t report_len) {
+    uint64_t bulks = 0, messages = 0;
+    uint32_t number = 0;
+    if (!is_date(date)) number = 1;
+    else if (!table_stands(table, table_len)) number = 2;
+    else if (positions_len != POSITION * (uint64_t)get32(table)) number = 3;
+    else if (!register_stands(reg, reg_len)) number = 4;
+    else if (!measure(sheet, sheet_len, &bulks, &messages)) number = 5;
+    else if (bulks > MOST_BULKS || messages > MOST_MESSAGES) number = 6;
+    else if ((number = kinds_refused(sheet + 4, bulks)) != 0) ;
+    else if ((reg_len - 4) / ENTRY - get32(reg) < bulks + messages) number = 9;
+    else if (!positions_stand(positions, positions_len, messages)) number = 10;
+    else if (report_len < 4 + 68 * bulks + 38 * messages) number = 11;
+    if (number != 0) return (tynderaxo_answer){number, 0};
+
+    const uint8_t *from = sheet + 4 + HEADER * bulks;
+    uint8_t *line = put(report, bulks, 4);
+    uint8_t *section = line + BULK_LINE * bulks;
+    for (uint64_t i = 0; i < bulks; i++) {
+        bulk b = {date, table, sheet + 4 + HEADER * i, from + 4, get32(from), NO_ROW, reg, positions};
+        section = judge_bulk(&b, line, section);
+        line += BULK_LINE;
+        from += 4 + MESSAGE * (size_t)b.count;
+    }
+    return (tynderaxo_answer){0, (uint64_t)(section - report)};
+}

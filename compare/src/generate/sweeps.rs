@@ -1,0 +1,79 @@
+//! Sweeps that leave nothing to chance: every date around the limits, every byte at every place of a field.
+
+use super::limits::{bulk, call, falling, message, register, rows, Limit};
+use crate::call::Call;
+use crate::records::{padded, Bulk, Message};
+
+/// Every month and day, and some that are none, of the years that matter.
+pub fn dates() -> impl Iterator<Item = u32> {
+    let years = [0, 1999, 2000, 2023, 2024, 2100, 2200, 2299, 2300, 2400];
+    let days = |year: u32| {
+        (0..=14).flat_map(move |month| (0..=32).map(move |day| year * 10_000 + month * 100 + day))
+    };
+    years.into_iter().flat_map(days)
+}
+
+/// An empty file on this date.
+pub fn on(date: u32) -> Call {
+    Call { date, ..call(&rows(2), register(0, 0), &[]) }
+}
+
+/// One field with each byte in turn at each of these places.
+fn every_byte<const WIDTH: usize>(field: [u8; WIDTH], places: &[usize]) -> Vec<[u8; WIDTH]> {
+    let changed = |place: usize, byte: u8| {
+        let mut field = field;
+        field[place] = byte;
+        field
+    };
+    places.iter().flat_map(|place| (0..=255).map(move |byte| changed(*place, byte))).collect()
+}
+
+/// A call of one bulk in which all messages fall, so that it is judged quickly; their own faults still show.
+fn shows(kind: u8, messages: Vec<Message>) -> Call {
+    let mut bulks = falling(vec![bulk(0, messages)]);
+    bulks[0].header.kind = kind;
+    let needed = 1 + bulks[0].messages.len();
+    call(&rows(2), register(0, needed), &bulks)
+}
+
+fn good() -> Message {
+    message(0, b"BBBBLV22RIX", 100)
+}
+
+fn good_return() -> Message {
+    Message { original: 100, reason: *b"AC01", name: *b"pacs.008.001.08", ..good() }
+}
+
+/// Empty bulks of these kinds.
+fn kinds(kinds: &[u8]) -> Call {
+    let mut bulks: Vec<Bulk> = kinds.iter().enumerate().map(|(index, _)| bulk(index, Vec::new())).collect();
+    bulks.iter_mut().zip(kinds).for_each(|(bulk, kind)| bulk.header.kind = *kind);
+    call(&rows(2), register(0, bulks.len()), &bulks)
+}
+
+pub const SWEEPS: [Limit; 6] = [
+    ("every byte in a short identifier", || {
+        let identifiers = every_byte(padded(b"AAA"), &[0, 1, 2, 3]);
+        shows(1, identifiers.into_iter().map(|identifier| Message { identifier, ..good() }).collect())
+    }),
+    ("every byte at the end of a long identifier", || {
+        let identifiers = every_byte([b'A'; 35], &[0, 33, 34]);
+        shows(1, identifiers.into_iter().map(|identifier| Message { identifier, ..good() }).collect())
+    }),
+    ("every byte in a BIC", || {
+        let receivers = every_byte(*b"BBBBLV22RIX", &[0, 1, 2, 3, 4, 5, 6, 7, 8, 9, 10]);
+        shows(1, receivers.into_iter().map(|receiver| Message { receiver, ..good() }).collect())
+    }),
+    ("every byte in a payment's reason and name", || {
+        let reasons = every_byte([b' '; 4], &[0, 3]).into_iter().map(|reason| Message { reason, ..good() });
+        let names = every_byte([b' '; 15], &[0, 14]).into_iter().map(|name| Message { name, ..good() });
+        shows(1, reasons.chain(names).collect())
+    }),
+    ("every byte in a return's reason and name", || {
+        let reasons = every_byte(*b"RR01", &[0, 1, 2, 3]).into_iter();
+        let names = every_byte(*b"pacs.008.001.02", &[0, 7, 13, 14]).into_iter();
+        let reasons = reasons.map(|reason| Message { reason, ..good_return() });
+        shows(3, reasons.chain(names.map(|name| Message { name, ..good_return() })).collect())
+    }),
+    ("a payment after a return and then a kind 4", || kinds(&[3, 1, 4])),
+];

@@ -1,0 +1,13 @@
+//! A second judge, written from document 01 alone, and the tools that set it against the archive.
+
+pub mod archive;
+pub mod call;
+pub mod checks;
+pub mod cut;
+pub mod generate;
+pub mod program;
+pub mod random;
+pub mod records;
+pub mod reference;
+pub mod shrink;
+pub mod text;
