@@ -3,6 +3,7 @@
 ghost use mathlib.Core.Path.{_≡_};
 ghost use Prim.Native.Nat.{_+_, _≤_};
 ghost use lib.ListN.{length};
+ghost use Rattle.wire.specs.Field.{numberAt};
 ghost use Rattle.routing.specs.Table.{rowAt, rowWidth, rows, knownKind, kindAt, kindsKnown};
 ghost use Rattle.routing.specs.Promise.{FormTold, RowTold, AnswerTold};
 ghost use Rattle.routing.specs.Lookup.{refusalNumber, optionOf, counts, bears, rowOf, headOffice, route, lookup};
@@ -80,12 +81,21 @@ fn kinds_known(table: &[u8]) -> bool
     true
 }
 
+// A date that is known to lie in the table: nothing is clipped, so the search pays for a date only where a row bears the BIC.
+fn date_at(table: &[u8], at: usize) -> u32
+    requires { ⌜ at + 4 ≤ length (now table) ⌝ }
+    ensures { λ r. ⌜ r ≡ numberAt (now (table .entry)) at 4 ⌝ }
+{
+    let end = at + 4;
+    wire::number(&table[at..end]) as u32
+}
+
 fn counts(date: u32, table: &[u8], i: usize) -> bool
     requires { ⌜ rowAt i + rowWidth ≤ length (now table) ⌝ }
     ensures { λ r. ⌜ r ≡ counts date (now (table .entry)) i ⌝ }
 {
-    (wire::u32_at(table, 4 + ROW_WIDTH * i + 11) <= date)
-        & (date <= wire::u32_at(table, 4 + ROW_WIDTH * i + 15))
+    (date_at(table, 4 + ROW_WIDTH * i + 11) <= date)
+        & (date <= date_at(table, 4 + ROW_WIDTH * i + 15))
 }
 
 fn bears(date: u32, table: &[u8], bic: &[u8], i: usize) -> bool
