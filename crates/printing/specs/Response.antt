@@ -1,0 +1,74 @@
+-- The program: what is printed for the bytes that it reads. Assumes nothing.
+use Prim.Native.Nat.{ℕ, _+_, _*_}
+use mathlib.Core.Bool.{Bool, cond, _&&_}
+use mathlib.Core.List.{List}
+use lib.ListN.{length, take, drop, replicate}
+use lib.Dec.{leb, eqb}
+use Rattle.wire.specs.Field.{part, numberAt}
+use Rattle.routing.specs.Table.{rows}
+use Rattle.positions.specs.Positions.{positionWidth}
+use Rattle.judging.specs.Refusals.{Call}
+use Rattle.judging.specs.Outcome.{Outcome, outcome}
+use Rattle.printing.specs.Lines.{refusalText, judgedText}
+
+-- ---- the input: a date in 4 bytes, then table, register and sheet, each after its length in 4 bytes
+
+abbrev pub mostPart : ℕ
+mostPart = 16384
+
+abbrev pub lengthIn : List ℕ → ℕ
+lengthIn rest = numberAt rest 0 4
+
+-- a part and its length stand at the start, and the part isn't too long
+abbrev pub fits : List ℕ → Bool
+fits rest = leb (lengthIn rest) mostPart && leb (4 + lengthIn rest) (length rest)
+
+abbrev pub partIn : List ℕ → List ℕ
+partIn rest = part rest 4 (lengthIn rest)
+
+abbrev pub afterPart : List ℕ → List ℕ
+afterPart rest = drop (4 + lengthIn rest) rest
+
+abbrev pub tableOn : List ℕ → List ℕ
+tableOn input = drop 4 input
+
+abbrev pub registerOn : List ℕ → List ℕ
+registerOn input = afterPart (tableOn input)
+
+abbrev pub sheetOn : List ℕ → List ℕ
+sheetOn input = afterPart (registerOn input)
+
+-- nothing follows the sheet
+unfoldable pub inShape : List ℕ → Bool
+inShape input =
+    fits (tableOn input)
+    && fits (registerOn input)
+    && fits (sheetOn input)
+    && eqb (length (afterPart (sheetOn input))) 0
+
+-- ---- the call: positions start at 0, and there is room for any report
+
+abbrev pub callIn : List ℕ → Call
+callIn input =
+    record {
+      date = numberAt input 0 4;
+      sheet = partIn (sheetOn input);
+      table = partIn (tableOn input);
+      register = partIn (registerOn input);
+      positions = replicate (positionWidth * rows (partIn (tableOn input))) 0;
+      report = replicate mostPart 0;
+    }
+
+-- ---- what is printed
+
+unfoldable pub outcomeText : Outcome → List ℕ
+outcomeText o =
+    cond (eqb (o .number) 0)
+    (judgedText (take (o .length) (o .report)) (o .positions) (o .register))
+    (refusalText (o .number))
+
+abbrev pub anotherShape : ℕ
+anotherShape = 99
+
+unfoldable pub response : List ℕ → List ℕ
+response input = cond (inShape input) (outcomeText (outcome (callIn input))) (refusalText anotherShape)

@@ -1,0 +1,2 @@
+// What is printed.
+ghost use mathlib.Core.Path.{_≡_};
