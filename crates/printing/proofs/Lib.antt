@@ -1,1 +1,4 @@
 pub mod Cases
+pub mod Decimals
+pub mod Limbs
+pub mod Runs

@@ -1,2 +1,4 @@
-// What is printed.
-ghost use mathlib.Core.Path.{_≡_};
+// What the program prints, written into a lent buffer.
+mod buffer;
+mod lines;
+mod numbers;

@@ -1,0 +1,1 @@
+// The lines of bulks, messages and positions.
