@@ -19,7 +19,7 @@ use Rattle.judging.specs.Judgement.{sumOf, afterMessage, lineOf, counted, judge
 use Rattle.judging.specs.Refusals.{holds, firstHolding, refusal}
 use Rattle.judging.specs.Outcome.{outcome}
 use Rattle.printing.specs.Decimal.{digitsOf, decimalIn, decimal}
-use Rattle.printing.specs.Lines.{lineEnd, identifierText, headText, bulkText, messageText, positionText, usedText, refusalText, messagesText, bulksText, reportText, positionsFrom, positionsText, judgedText}
+use Rattle.printing.specs.Lines.{lineEnd, identifierText, headText, bulkText, messageText, signedText, positionText, usedText, refusalText, messagesText, bulksText, reportText, positionsFrom, positionsText, judgedText}
 use Rattle.printing.specs.Response.{inShape, outcomeText, response}
 
 -- ---- numbers
@@ -38,7 +38,7 @@ unfolding decimal decimalIn
 widest-printed = refl
 
 least-position : positionText 7 9223372036854775808 ≡ text "P 7 -9223372036854775808" ++ lineEnd
-unfolding positionText decimal decimalIn
+unfolding positionText signedText decimal decimalIn
 least-position = refl
 
 no-position : positionText 7 0 ≡ []
@@ -113,7 +113,7 @@ expected =
     ++ lineEnd
 
 wholeCase : response input ≡ expected
-unfolding padded row message sized sheet table input expected bytesOf numberFrom same firstFrom everyFrom isDate daysIn leap wellFormed kindsKnown rowOf route search stands add registerFormed roomForAll gains loses recordsAt bulksFrom endFrom messagesFrom whole shape mixed sheetKinds among allowed kept formed badlyFormed bicFormed blank oneOf mask bulkFaults messageFaults bulkLine messageLine sumOf afterMessage lineOf counted judgeMessages bulkLineOf sectionOf afterBulk judgeBulks holds firstHolding refusal outcome digitsOf decimalIn decimal identifierText headText bulkText messageText positionText usedText messagesText bulksText reportText positionsFrom positionsText judgedText inShape outcomeText response
+unfolding padded row message sized sheet table input expected bytesOf numberFrom same firstFrom everyFrom isDate daysIn leap wellFormed kindsKnown rowOf route search stands add registerFormed roomForAll gains loses recordsAt bulksFrom endFrom messagesFrom whole shape mixed sheetKinds among allowed kept formed badlyFormed bicFormed blank oneOf mask bulkFaults messageFaults bulkLine messageLine sumOf afterMessage lineOf counted judgeMessages bulkLineOf sectionOf afterBulk judgeBulks holds firstHolding refusal outcome digitsOf decimalIn decimal identifierText headText bulkText messageText signedText positionText usedText messagesText bulksText reportText positionsFrom positionsText judgedText inShape outcomeText response
 wholeCase = refl
 
 -- a byte too many

@@ -23,7 +23,7 @@ clipped d at xs = ⊎-elim
     rw end (sets-out d (length d) xs (omega arith) ∙ sym (sets-out d at xs (omega arith))))
     (le-or-lt at (length d))
 
-printed-length : {before after : List ℕ} {at next : ℕ} {text : List ℕ} → Printed before after at next text → length after ≡ length before
+pub printed-length : {before after : List ℕ} {at next : ℕ} {text : List ℕ} → Printed before after at next text → length after ≡ length before
 printed-length {before} {after} {at} {next} {text} p = ap length (p .bytes) ∙ length-sets before at text
 
 -- one text, then another from the next place on

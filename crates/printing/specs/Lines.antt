@@ -52,14 +52,13 @@ bulkText line =
 unfoldable pub messageText : List ℕ → List ℕ
 messageText line = text "M " ++ headText (text "ARF") line ++ lineEnd
 
-abbrev pub sign : ℕ → List ℕ
-sign bits = cond (ltb bits (2 ^ 63)) [] (text "-")
+-- the whole number that 64 bits stand for, after a space
+unfoldable pub signedText : ℕ → List ℕ
+signedText bits = cond (ltb bits (2 ^ 63)) (field bits) (text " -" ++ decimal (magnitude bits))
 
 -- the position of a row, of which these are the bits, if it isn't 0
 unfoldable pub positionText : ℕ → ℕ → List ℕ
-positionText row bits =
-    cond (eqb bits 0) []
-    (text "P" ++ field row ++ text " " ++ sign bits ++ decimal (magnitude bits) ++ lineEnd)
+positionText row bits = cond (eqb bits 0) [] (text "P" ++ field row ++ signedText bits ++ lineEnd)
 
 unfoldable pub usedText : ℕ → List ℕ
 usedText number = text "=" ++ field number ++ lineEnd

@@ -37,7 +37,7 @@ fn put_digits(out: &mut [u8], at: usize, n: usize, v: u64) -> usize
     buffer::place_after(at, n, out.len())
 }
 
-fn put_decimal(out: &mut [u8], at: usize, v: u64) -> usize
+pub(crate) fn put_decimal(out: &mut [u8], at: usize, v: u64) -> usize
     ensures { λ r. ⌜ Printed (now (out .entry)) (now (out .exit)) at r (decimal v) ⌝ }
 {
     put_digits(out, at, width(v), v)
