@@ -20,7 +20,7 @@ use Rattle.judging.specs.Refusals.{holds, firstHolding, refusal}
 use Rattle.judging.specs.Outcome.{outcome}
 use Rattle.printing.specs.Decimal.{digitsOf, decimalIn, decimal}
 use Rattle.printing.specs.Lines.{lineEnd, identifierText, headText, bulkText, messageText, signedText, positionText, usedText, refusalText, messagesText, bulksText, reportText, positionsFrom, positionsText, judgedText}
-use Rattle.printing.specs.Response.{inShape, outcomeText, response}
+use Rattle.printing.specs.Response.{inShape, zeros, outcomeText, response}
 
 -- ---- numbers
 
@@ -113,7 +113,7 @@ expected =
     ++ lineEnd
 
 wholeCase : response input ≡ expected
-unfolding padded row message sized sheet table input expected bytesOf numberFrom same firstFrom everyFrom isDate daysIn leap wellFormed kindsKnown rowOf route search stands add registerFormed roomForAll gains loses recordsAt bulksFrom endFrom messagesFrom whole shape mixed sheetKinds among allowed kept formed badlyFormed bicFormed blank oneOf mask bulkFaults messageFaults bulkLine messageLine sumOf afterMessage lineOf counted judgeMessages bulkLineOf sectionOf afterBulk judgeBulks holds firstHolding refusal outcome digitsOf decimalIn decimal identifierText headText bulkText messageText signedText positionText usedText messagesText bulksText reportText positionsFrom positionsText judgedText inShape outcomeText response
+unfolding padded row message sized sheet table input expected bytesOf numberFrom same firstFrom everyFrom isDate daysIn leap wellFormed kindsKnown rowOf route search stands add registerFormed roomForAll gains loses recordsAt bulksFrom endFrom messagesFrom whole shape mixed sheetKinds among allowed kept formed badlyFormed bicFormed blank oneOf mask bulkFaults messageFaults bulkLine messageLine sumOf afterMessage lineOf counted judgeMessages bulkLineOf sectionOf afterBulk judgeBulks holds firstHolding refusal outcome digitsOf decimalIn decimal identifierText headText bulkText messageText signedText positionText usedText messagesText bulksText reportText positionsFrom positionsText judgedText inShape zeros outcomeText response
 wholeCase = refl
 
 -- a byte too many

@@ -1,23 +1,18 @@
 -- The laws of the loops that print: what one turn more adds to the text. Assumes nothing.
 use mathlib.Core.Path.{_≡_, refl, sym, ap, _∙_}
 use mathlib.Core.Logic.{⊎-elim}
-use mathlib.Core.Bool.{Bool, true, false, cond}
 use mathlib.Core.List.{List, [], _∷_, _++_, map, append-nil, append-assoc}
-use Prim.Native.Nat.{ℕ, zero, suc, _+_, _-_, _*_, _^_, _≤_, _<_}
-use native.Mathlib.Nat.{add-zero, zero-add, mul-zero, mul-suc}
+use Prim.Native.Nat.{ℕ, zero, suc, _+_, _*_, _/_, _≤_, _<_, min}
+use native.Mathlib.Nat.{add-zero, zero-add}
 use native.Mathlib.Numerals.{add-one}
 use native.Mathlib.Omega.{arith}
-use lib.Dec.{eqb, ltb}
-use lib.ListN.{length, getD, take, drop, drop-of-length-le}
-use lib.Seq.{take-suc, take-length, drop-drop}
-use borrow.Author.Tests.{eq-eqb, ne-eqb, lt-ltb, le-ltb}
-use Rattle.wire.specs.Field.{text, part, numberAt}
+use lib.ListN.{length, getD, take, drop, length-drop, drop-of-length-le}
+use lib.Seq.{take-suc, take-length, take-all, drop-drop}
+use Rattle.wire.specs.Field.{part, numberAt}
 use Rattle.wire.proofs.Sides.{le-or-lt}
-use Rattle.wording.specs.Wording.{allowed, space, isSpace, kept}
 use Rattle.report.specs.Line.{bulkLineWidth, messageLineWidth}
-use Rattle.positions.specs.Positions.{positionAt}
-use Rattle.printing.specs.Decimal.{decimal}
-use Rattle.printing.specs.Lines.{lineEnd, field, shown, identifierText, headText, messageText, messagesText, bulkText, sectionText, afterSection, bulksText, signedText, positionText, positionsFrom}
+use Rattle.positions.specs.Positions.{positionWidth, positionAt}
+use Rattle.printing.specs.Lines.{shown, messageText, messagesText, bulkText, countIn, sectionText, afterSection, bulksText, reportText, positionText, positionsFrom, positionsText}
 
 -- ---- the bytes of an identifier
 
@@ -45,7 +40,32 @@ messages-more (suc i) lines =
     (append-assoc (messageText (take messageLineWidth lines)) (messagesText i (drop messageLineWidth lines)) _
     ∙ ap (λ (r : List ℕ). messageText (take messageLineWidth lines) ++ r) (messages-more i (drop messageLineWidth lines)))
 
+module _ (s : List ℕ) (i : ℕ) where
+  pub section-turn : (line : List ℕ) → line ≡ part s (4 + messageLineWidth * i) messageLineWidth
+      → messagesText i (drop 4 s) ++ messageText line ≡ messagesText (i + 1) (drop 4 s)
+  section-turn line cut = rw (cut, ← (drop-drop (messageLineWidth * i) 4 s)) (messages-more i (drop 4 s))
+
+  pub section-ends : (n : ℕ) → n ≡ countIn s → i ≤ n → n ≤ i → messagesText i (drop 4 s) ≡ sectionText s
+  section-ends n is low high = let end : i ≡ countIn s = omega arith in ap (λ (k : ℕ). messagesText k (drop 4 s)) end
+
 -- ---- the bulks of a report
+
+drop-clipped : (s : List ℕ) (at : ℕ) → drop (min at (length s)) s ≡ drop at s
+drop-clipped s at = ⊎-elim
+    (λ (h : at ≤ length s). let same : min at (length s) ≡ at = omega arith in rw same)
+    (λ (h : length s < at).
+    let end : min at (length s) ≡ length s = omega arith in
+    let past : length s ≤ at = omega arith in
+    rw end (drop-of-length-le s {i = length s} (omega arith) ∙ sym (drop-of-length-le s past)))
+    (le-or-lt at (length s))
+
+-- the place after a section, no further than the end
+pub section-after : (report : List ℕ) (place n next : ℕ) → n ≡ numberAt report place 4
+    → next ≡ min (place + (4 + messageLineWidth * n)) (length report) → drop next report ≡ afterSection (drop place report)
+section-after report place n next is e =
+    rw (e, is)
+    (drop-clipped report (place + (4 + messageLineWidth * numberAt report place 4))
+    ∙ sym (drop-drop (4 + messageLineWidth * numberAt report place 4) place report))
 
 -- the sections after the first i
 unfoldable pub sectionsAfter : ℕ → List ℕ → List ℕ
@@ -72,6 +92,32 @@ bulks-more (suc i) lines sections =
     (regroup (bulkText (take bulkLineWidth lines) ++ sectionText sections) (bulksText i (drop bulkLineWidth lines) (afterSection sections)) _ _
     ∙ ap (λ (r : List ℕ). bulkText (take bulkLineWidth lines) ++ sectionText sections ++ r) (bulks-more i (drop bulkLineWidth lines) (afterSection sections)))
 
+module _ (report : List ℕ) (b i place : ℕ) (here : drop place report ≡ sectionsAfter i (drop (4 + bulkLineWidth * b) report)) where
+  pub report-turn : (line section : List ℕ) → line ≡ part report (4 + bulkLineWidth * i) bulkLineWidth → section ≡ part report place (length report)
+      → bulksText i (drop 4 report) (drop (4 + bulkLineWidth * b) report) ++ bulkText line ++ sectionText section
+      ≡ bulksText (i + 1) (drop 4 report) (drop (4 + bulkLineWidth * b) report)
+  report-turn line section cut rest =
+      let short : length (drop place report) ≤ length report = rw (length-drop place report) (omega arith) in
+      let all : section ≡ sectionsAfter i (drop (4 + bulkLineWidth * b) report) = rest ∙ take-all (length report) (drop place report) short ∙ here in
+      rw (cut, ← (drop-drop (bulkLineWidth * i) 4 report), all) (bulks-more i (drop 4 report) (drop (4 + bulkLineWidth * b) report))
+
+  pub report-place : (next : ℕ) → drop next report ≡ afterSection (drop place report)
+      → drop next report ≡ sectionsAfter (i + 1) (drop (4 + bulkLineWidth * b) report)
+  report-place next e = e ∙ ap (λ (s : List ℕ). afterSection s) here ∙ sym (sections-more i (drop (4 + bulkLineWidth * b) report))
+
+pub report-starts : (s : List ℕ) → s ≡ sectionsAfter 0 s
+unfolding sectionsAfter
+report-starts s = refl
+
+pub bulks-none : (lines sections : List ℕ) → [] ≡ bulksText 0 lines sections
+unfolding bulksText
+bulks-none lines sections = refl
+
+pub report-ends : (report : List ℕ) (b i : ℕ) → b ≡ countIn report → i ≤ b → b ≤ i
+    → bulksText i (drop 4 report) (drop (4 + bulkLineWidth * b) report) ≡ reportText report
+unfolding reportText
+report-ends report b i is low high = let end : i ≡ b = omega arith in rw (end, is)
+
 -- ---- the rows' positions
 
 pub positions-more : (positions : List ℕ) (i k : ℕ)
@@ -85,51 +131,22 @@ positions-more positions (suc i) k =
     (append-assoc (positionText k (positionAt positions k)) (positionsFrom positions i (suc k)) _
     ∙ ap (λ (r : List ℕ). positionText k (positionAt positions k) ++ r) (positions-more positions i (suc k)))
 
--- ---- the tests of a line
+pub positions-turn : (positions : List ℕ) (i bits : ℕ) → bits ≡ positionAt positions i
+    → positionsFrom positions i 0 ++ positionText i bits ≡ positionsFrom positions (i + 1) 0
+positions-turn positions i bits is =
+    rw is (ap (λ (k : ℕ). positionsFrom positions i 0 ++ positionText k (positionAt positions k)) (sym (zero-add i)) ∙ positions-more positions i 0)
 
-pub shown-space : (c : ℕ) → c ≡ space → shown c ≡ 95
-shown-space c e = rw (eq-eqb c space e)
+pub positions-end : (positions : List ℕ) (i : ℕ) → i ≤ length positions / positionWidth → length positions / positionWidth ≤ i
+    → positionsFrom positions i 0 ≡ positionsText positions
+unfolding positionsText
+positions-end positions i low high = let end : i ≡ length positions / positionWidth = omega arith in ap (λ (k : ℕ). positionsFrom positions k 0) end
 
-pub shown-allowed : (c : ℕ) (told : Bool) → (c ≡ space → ⊥) → told ≡ allowed c → told ≡ true → shown c ≡ c
-shown-allowed c told other is e = rw (ne-eqb c space other, ← is, e)
+-- ---- before the first turn
 
-pub shown-odd : (c : ℕ) (told : Bool) → (c ≡ space → ⊥) → told ≡ allowed c → told ≡ false → shown c ≡ 42
-shown-odd c told other is e = rw (ne-eqb c space other, ← is, e)
+pub messages-none : (lines : List ℕ) → [] ≡ messagesText 0 lines
+unfolding messagesText
+messages-none lines = refl
 
-pub identifier-blank : (s : List ℕ) (n : ℕ) → n ≡ kept s → n ≡ 0 → text "_" ≡ identifierText s
-unfolding identifierText
-identifier-blank s n is e = sym (rw (eq-eqb (kept s) 0 (sym is ∙ e)))
-
-pub identifier-kept : (s t : List ℕ) (n : ℕ) → n ≡ kept s → (n ≡ 0 → ⊥) → t ≡ part s 0 n → map shown t ≡ identifierText s
-unfolding identifierText
-identifier-kept s t n is some cut = sym (rw (ne-eqb (kept s) 0 (λ (e : kept s ≡ 0). some (is ∙ e)), ← is, cut))
-
-pub signed-plus : (bits : ℕ) → bits < 2 ^ 63 → field bits ≡ signedText bits
-unfolding signedText
-signed-plus bits h = sym (rw (lt-ltb bits (2 ^ 63) h))
-
-pub signed-minus : (bits : ℕ) → 2 ^ 63 ≤ bits → bits < 2 ^ 64 → text " -" ++ decimal (18446744073709551615 - bits + 1) ≡ signedText bits
-unfolding signedText
-signed-minus bits h fits =
-    let same : 18446744073709551615 - bits + 1 ≡ 2 ^ 64 - bits = omega arith in
-    rw (le-ltb bits (2 ^ 63) h, same)
-
-pub position-none : (row bits : ℕ) → bits ≡ 0 → [] ≡ positionText row bits
-unfolding positionText
-position-none row bits e = sym (rw (eq-eqb bits 0 e))
-
-pub position-some : (row bits : ℕ) → (bits ≡ 0 → ⊥) → text "P" ++ field row ++ signedText bits ++ lineEnd ≡ positionText row bits
-unfolding positionText
-position-some row bits some = sym (rw (ne-eqb bits 0 some))
-
--- ---- the pieces of a line, each read from its field
-
-pub head-pieces : (letters line a b : List ℕ) (o n : ℕ) → a ≡ part line 0 35 → o ≡ numberAt line 35 1 → b ≡ part letters o 1 → n ≡ numberAt line 36 2
-    → identifierText a ++ text " " ++ b ++ field n ≡ headText letters line
-unfolding headText
-head-pieces letters line a b o n ea eo eb en = rw (ea, eb, eo, en)
-
-pub bulk-pieces : (line : List ℕ) (an ac rn : ℕ) → an ≡ numberAt line 38 4 → ac ≡ numberAt line 42 8 → rn ≡ numberAt line 50 4
-    → text "B " ++ headText (text "APR") line ++ field an ++ field ac ++ field rn ++ field (numberAt line 54 10) ++ lineEnd ≡ bulkText line
-unfolding bulkText
-bulk-pieces line an ac rn ean eac ern = rw (ean, eac, ern)
+pub positions-none : (positions : List ℕ) → [] ≡ positionsFrom positions 0 0
+unfolding positionsFrom
+positions-none positions = refl

@@ -48,16 +48,22 @@ inShape input =
 
 -- ---- the call: positions start at 0, and there is room for any report
 
-abbrev pub callIn : List ℕ → Call
-callIn input =
+unfoldable pub zeros : ℕ → List ℕ
+zeros n = replicate n 0
+
+abbrev pub callWith : ℕ → List ℕ → List ℕ → List ℕ → Call
+callWith date sheet table register =
     record {
-      date = numberAt input 0 4;
-      sheet = partIn (sheetOn input);
-      table = partIn (tableOn input);
-      register = partIn (registerOn input);
-      positions = replicate (positionWidth * rows (partIn (tableOn input))) 0;
-      report = replicate mostPart 0;
+      date = date;
+      sheet = sheet;
+      table = table;
+      register = register;
+      positions = zeros (positionWidth * rows table);
+      report = zeros mostPart;
     }
+
+abbrev pub callIn : List ℕ → Call
+callIn input = callWith (numberAt input 0 4) (partIn (sheetOn input)) (partIn (tableOn input)) (partIn (registerOn input))
 
 -- ---- what is printed
 

@@ -1,11 +1,17 @@
 -- What a function that prints into a lent buffer tells. Contract plumbing: what is printed is defined in Lines. Assumes nothing.
-use Prim.Native.Nat.{ℕ, _+_, min}
+use Prim.Native.Nat.{ℕ, _+_, _≤_, min}
 use mathlib.Core.Path.{_≡_}
 use mathlib.Core.List.{List}
 use lib.ListN.{length}
 use lib.Seq.{sets}
+use Rattle.printing.specs.Response.{mostPart}
 
 -- the text stands in the buffer from place at on, as far as there is room, and the next place follows it
 pub record Printed (before after : List ℕ) (at next : ℕ) (text : List ℕ) : Type 0 where
   pub bytes : after ≡ sets before at text
   pub place : next ≡ min (at + length text) (length before)
+
+-- the parts that the spaces have to hold are no longer than a part may be
+pub record PartsFit (table register : List ℕ) : Type 0 where
+  pub tableFits : length table ≤ mostPart
+  pub registerFits : length register ≤ mostPart

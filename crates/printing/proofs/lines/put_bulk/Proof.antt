@@ -1,6 +1,6 @@
 -- `printing::lines::put_bulk` meets its contract: seven pieces, one after the other. Assumes nothing.
 use Rattle.printing.proofs.Runs.{then, reading, printed-length}
-use Rattle.printing.proofs.Turns.{bulk-pieces}
+use Rattle.printing.proofs.Pieces.{bulk-pieces}
 use borrow.Author.Needs.{needs}
 use Rattle.printing.proofs.lines.put_bulk.Statement.{statement}
 use Rattle.printing.proofs.lines.put_bulk.Tie as tie

@@ -1,6 +1,6 @@
 -- `printing::lines::put_head` meets its contract: four pieces, one after the other. Assumes nothing.
 use Rattle.printing.proofs.Runs.{then, reading}
-use Rattle.printing.proofs.Turns.{head-pieces}
+use Rattle.printing.proofs.Pieces.{head-pieces}
 use borrow.Author.Needs.{needs}
 use Rattle.printing.proofs.lines.put_head.Statement.{statement}
 use Rattle.printing.proofs.lines.put_head.Tie as tie

@@ -1,6 +1,6 @@
 -- `printing::lines::put_identifier` meets its contract. Assumes nothing.
 use Rattle.printing.proofs.Runs.{reading}
-use Rattle.printing.proofs.Turns.{identifier-blank, identifier-kept}
+use Rattle.printing.proofs.Pieces.{identifier-blank, identifier-kept}
 use borrow.Author.Needs.{needs}
 use Rattle.printing.proofs.lines.put_identifier.Statement.{statement}
 use Rattle.printing.proofs.lines.put_identifier.Tie as tie

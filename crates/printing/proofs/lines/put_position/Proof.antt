@@ -1,6 +1,6 @@
 -- `printing::lines::put_position` meets its contract: four pieces, or nothing. Assumes nothing.
 use Rattle.printing.proofs.Runs.{then, reading, nothing-printed}
-use Rattle.printing.proofs.Turns.{position-none, position-some}
+use Rattle.printing.proofs.Pieces.{position-none, position-some}
 use borrow.Author.Needs.{needs}
 use Rattle.printing.proofs.lines.put_position.Statement.{statement}
 use Rattle.printing.proofs.lines.put_position.Tie as tie

@@ -1,6 +1,6 @@
 -- `printing::lines::put_signed` meets its contract: the sign goes by the highest bit. Assumes nothing.
 use Rattle.printing.proofs.Runs.{then, reading}
-use Rattle.printing.proofs.Turns.{signed-plus, signed-minus}
+use Rattle.printing.proofs.Pieces.{signed-plus, signed-minus}
 use borrow.Author.Needs.{needs}
 use Rattle.printing.proofs.lines.put_signed.Statement.{statement}
 use Rattle.printing.proofs.lines.put_signed.Tie as tie

@@ -1,6 +1,6 @@
 -- `printing::lines::shown` meets its contract: the same tests in the same order. Assumes nothing.
 use mathlib.Core.Path.{sym}
-use Rattle.printing.proofs.Turns.{shown-space, shown-allowed, shown-odd}
+use Rattle.printing.proofs.Pieces.{shown-space, shown-allowed, shown-odd}
 use borrow.Author.Needs.{needs}
 use Rattle.printing.proofs.lines.shown.Statement.{statement}
 use Rattle.printing.proofs.lines.shown.Tie as tie
