@@ -7,11 +7,11 @@ use Prim.Native.Nat.{ℕ, zero, suc, _+_, _-_, _/_, _≤_, _<_, min}
 use native.Mathlib.Nat.{add-zero}
 use native.Mathlib.Omega.{arith}
 use lib.ListN.{length, set, length-append}
-use lib.Seq.{sets, set-out, length-sets}
+use lib.Seq.{sets, set-out, length-sets, length-take-le}
 use Rattle.wire.proofs.Stores.{sets-append, sets-last, sets-out}
 use Rattle.wire.proofs.Sides.{le-or-lt}
 use Rattle.printing.specs.Decimal.{digit, digitsOf}
-use Rattle.printing.specs.Writing.{Printed}
+use Rattle.printing.specs.Writing.{Printed, Answered}
 use Rattle.printing.proofs.Decimals.{digits-length}
 
 -- what starts at the clipped place may as well start at the place
@@ -44,6 +44,14 @@ then {before} {middle} {after} {at} {next} {end} {xs} {ys} p q =
           let second = q .place in
           rw (length-append xs ys) (omega arith);
     }
+
+-- a text from the start on is a whole answer
+pub whole : {before after : List ℕ} {written : ℕ} {text : List ℕ} → Printed before after 0 written text → Answered before after written text
+whole {before} {after} {written} {text} p =
+    let same = printed-length p in
+    let place = p .place in
+    let within : written ≤ length after = omega arith in
+    record { printed = p; within = within; counted = sym (length-take-le written after within) }
 
 -- nothing, at a place that is not past the end
 pub nothing-printed : (d : List ℕ) (at next : ℕ) → next ≡ min at (length d) → Printed d d at next []

@@ -2,7 +2,7 @@
 use Prim.Native.Nat.{ℕ, _+_, _≤_, min}
 use mathlib.Core.Path.{_≡_}
 use mathlib.Core.List.{List}
-use lib.ListN.{length}
+use lib.ListN.{length, take}
 use lib.Seq.{sets}
 use Rattle.printing.specs.Response.{mostPart}
 
@@ -10,6 +10,12 @@ use Rattle.printing.specs.Response.{mostPart}
 pub record Printed (before after : List ℕ) (at next : ℕ) (text : List ℕ) : Type 0 where
   pub bytes : after ≡ sets before at text
   pub place : next ≡ min (at + length text) (length before)
+
+-- a whole answer: it stands at the buffer's start, and as many bytes are told as were written there
+pub record Answered (before after : List ℕ) (written : ℕ) (text : List ℕ) : Type 0 where
+  pub printed : Printed before after 0 written text
+  pub within : written ≤ length after
+  pub counted : written ≡ length (take written after)
 
 -- the parts that the spaces have to hold are no longer than a part may be
 pub record PartsFit (table register : List ℕ) : Type 0 where

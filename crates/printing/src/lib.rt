@@ -7,11 +7,11 @@ mod response;
 mod sections;
 
 ghost use Rattle.printing.specs.Response.{response};
-ghost use Rattle.printing.specs.Writing.{Printed};
+ghost use Rattle.printing.specs.Writing.{Answered};
 
 // Answers any input. What has no room in the buffer is left out, and the answer is how many bytes were written.
 pub fn respond(input: &[u8], out: &mut [u8]) -> usize
-    ensures { λ r. ⌜ Printed (now (out .entry)) (now (out .exit)) 0 r (response (now (input .entry))) ⌝ }
+    ensures { λ r. ⌜ Answered (now (out .entry)) (now (out .exit)) r (response (now (input .entry))) ⌝ }
 {
     if !input::in_shape(input) {
         return lines::put_refusal(out, 0, 99);
