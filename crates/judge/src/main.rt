@@ -5,7 +5,7 @@
 const MOST_INPUT: usize = 49169;
 
 // No response is longer.
-const MOST_OUTPUT: usize = 65536;
+const MOST_OUTPUT: usize = 73728;
 
 fn main() {
     let mut input = [0u8; MOST_INPUT];

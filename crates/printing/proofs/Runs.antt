@@ -4,14 +4,15 @@ use mathlib.Core.Path.{_≡_, refl, sym, ap, _∙_}
 use mathlib.Core.Logic.{⊎-elim}
 use mathlib.Core.List.{List, [], _∷_, _++_}
 use Prim.Native.Nat.{ℕ, zero, suc, _+_, _-_, _/_, _≤_, _<_, min}
-use native.Mathlib.Nat.{add-zero}
+use native.Mathlib.Nat.{add-zero, le-trans}
 use native.Mathlib.Omega.{arith}
 use lib.ListN.{length, set, length-append}
 use lib.Seq.{sets, set-out, length-sets, length-take-le}
-use Rattle.wire.proofs.Stores.{sets-append, sets-last, sets-out}
+use Rattle.wire.proofs.Stores.{sets-append, sets-last, sets-out, part-stored}
 use Rattle.wire.proofs.Sides.{le-or-lt}
 use Rattle.printing.specs.Decimal.{digit, digitsOf}
-use Rattle.printing.specs.Writing.{Printed, Answered}
+use Rattle.printing.specs.Writing.{Printed, PrintedWithin, Answered}
+use Rattle.printing.specs.Response.{mostResponse}
 use Rattle.printing.proofs.Decimals.{digits-length}
 
 -- what starts at the clipped place may as well start at the place
@@ -45,13 +46,29 @@ then {before} {middle} {after} {at} {next} {end} {xs} {ys} p q =
           rw (length-append xs ys) (omega arith);
     }
 
+pub within-reading : {most : ℕ} {before after : List ℕ} {at next : ℕ} {xs ys : List ℕ} → xs ≡ ys
+    → PrintedWithin most before after at next xs → PrintedWithin most before after at next ys
+within-reading e p = rw e at p
+
+pub widen : {few most : ℕ} {before after : List ℕ} {at next : ℕ} {text : List ℕ} → few ≤ most
+    → PrintedWithin few before after at next text → PrintedWithin most before after at next text
+widen h p = record { printed = p .printed; short = le-trans (p .short) h }
+
 -- a text from the start on is a whole answer
-pub whole : {before after : List ℕ} {written : ℕ} {text : List ℕ} → Printed before after 0 written text → Answered before after written text
-whole {before} {after} {written} {text} p =
-    let same = printed-length p in
-    let place = p .place in
+pub whole-answer : {before after : List ℕ} {written : ℕ} {text : List ℕ} → PrintedWithin mostResponse before after 0 written text → Answered before after written text
+whole-answer {before} {after} {written} {text} p =
+    let same = printed-length (p .printed) in
+    let place = p .printed .place in
+    let short = p .short in
     let within : written ≤ length after = omega arith in
-    record { printed = p; within = within; counted = sym (length-take-le written after within) }
+    record {
+      printed = p .printed;
+      within = within;
+      counted = sym (length-take-le written after within);
+      all = λ (room : mostResponse ≤ length before).
+          let full : written ≡ length text = omega arith in
+          rw (p .printed .bytes, full) (part-stored before 0 (length text) text refl (omega arith));
+    }
 
 -- nothing, at a place that is not past the end
 pub nothing-printed : (d : List ℕ) (at next : ℕ) → next ≡ min at (length d) → Printed d d at next []

@@ -1,21 +1,21 @@
 -- The laws of the input and of the answer: parts read from their places, the spaces lent, and the text of each outcome.
 -- Assumes nothing.
 use mathlib.Core.Path.{_≡_, refl, sym, ap, _∙_}
-use mathlib.Core.Bool.{Bool, true, false, cond, not, _&&_, false≢true}
-use mathlib.Core.List.{List, [], _∷_, _++_}
-use Prim.Native.Nat.{ℕ, zero, suc, _+_, _-_, _*_, _/_, _≤_, _<_}
+use mathlib.Core.Bool.{Bool, true, false, _&&_, false≢true}
+use mathlib.Core.List.{List, _∷_}
+use Prim.Native.Nat.{ℕ, zero, suc, _+_, _-_, _*_, _≤_, _<_}
 use native.Mathlib.Nat.{le-trans}
 use native.Mathlib.Omega.{arith}
-use lib.Dec.{leb, eqb}
-use lib.ListN.{length, take, drop, replicate, length-drop, length-replicate}
+use lib.Dec.{leb, eqb, lit<, lit≤}
+use lib.ListN.{length, take, drop, length-drop, length-replicate}
 use lib.Seq.{sets, take-all, length-take-le, length-sets}
-use borrow.Author.Tests.{leb-true, not-true, not-false}
+use borrow.Author.Tests.{leb-true}
 use Rattle.wire.specs.Field.{part, numberAt}
 use Rattle.wire.proofs.Texts.{part-short}
 use Rattle.wire.proofs.Stores.{part-stored}
 use Rattle.routing.specs.Table.{rows}
 use Rattle.positions.specs.Positions.{positionWidth}
-use Rattle.judging.specs.Refusals.{Call, numberOf}
+use Rattle.judging.specs.Refusals.{numberOf}
 use Rattle.judging.specs.Outcome.{Outcome, left, outcome, answerNumber}
 use Rattle.judging.specs.Ready.{callOf}
 use Rattle.judging.specs.declared.Answer.{Answer}
@@ -23,8 +23,9 @@ use Rattle.judging.specs.declared.Answer.the-variants.{Refused, Judged}
 use Rattle.judging.specs.declared.Refusal.{Refusal}
 use Rattle.judging.specs.declared.Refusal.the-variants.{Date, Table, Positions, Register, Sheet, Size, Kind, Order, Room, Limit, Space}
 use Rattle.printing.specs.Lines.{refusalText, judgedText}
-use Rattle.printing.specs.Response.{mostPart, lengthIn, fits, partIn, afterPart, tableOn, registerOn, sheetOn, inShape, zeros, callWith, callIn, outcomeText, anotherShape, response}
+use Rattle.printing.specs.Response.{mostPart, lengthIn, fits, partIn, afterPart, tableOn, registerOn, sheetOn, inShape, zeros, callWith, outcomeText, anotherShape, mostResponse, response}
 use Rattle.printing.specs.Writing.{PartsFit}
+use Rattle.printing.proofs.Lengths.{refusal-short}
 
 -- ---- the parts
 
@@ -52,23 +53,25 @@ shape-read input table register sheet behind a b c et er es eb ea' eb' ec' = rw 
 
 -- ---- what the shape says of the parts
 
-both-true : (a b : Bool) → (a && b) ≡ true → (a ≡ true) × (b ≡ true)
+pub both-true : (a b : Bool) → (a && b) ≡ true → (a ≡ true) × (b ≡ true)
 both-true true b e = (refl, e)
 both-true false b e = absurd (false≢true e)
 
-part-fits : (s : List ℕ) → fits s ≡ true → length (partIn s) ≤ mostPart
+pub part-fits : (s : List ℕ) → fits s ≡ true → length (partIn s) ≤ mostPart
 part-fits s e =
     let short : lengthIn s ≤ mostPart = leb-true (lengthIn s) mostPart (both-true _ _ e .0) in
     le-trans (part-short s 4 (lengthIn s)) short
 
-pub parts-fit : (input table register : List ℕ) (told : Bool) → told ≡ inShape input → told ≡ true
-    → table ≡ partIn (tableOn input) → register ≡ partIn (registerOn input) → PartsFit table register
+pub parts-fit : (input sheet table register : List ℕ) (told : Bool) → told ≡ inShape input → told ≡ true
+    → sheet ≡ partIn (sheetOn input) → table ≡ partIn (tableOn input) → register ≡ partIn (registerOn input) → PartsFit sheet table register
 unfolding inShape
-parts-fit input table register told is e et er =
+parts-fit input sheet table register told is e es et er =
     let two = fits (tableOn input) && fits (registerOn input) in
     let three = both-true (two && fits (sheetOn input)) _ (sym is ∙ e) .0 in
-    let both = both-true (fits (tableOn input)) (fits (registerOn input)) (both-true two (fits (sheetOn input)) three .0) in
+    let last = both-true two (fits (sheetOn input)) three in
+    let both = both-true (fits (tableOn input)) (fits (registerOn input)) (last .0) in
     record {
+      sheetFits = rw es (part-fits (sheetOn input) (last .1));
       tableFits = rw et (part-fits (tableOn input) (both .0));
       registerFits = rw er (part-fits (registerOn input) (both .1));
     }
@@ -81,14 +84,14 @@ take-zeros zero m h = refl
 take-zeros (suc n) zero h = absurd (omega arith)
 take-zeros (suc n) (suc m) h = ap (λ (r : List ℕ). 0 ∷ r) (take-zeros n m (omega arith))
 
-zeros-length : (n : ℕ) → length (zeros n) ≡ n
+pub zeros-length : (n : ℕ) → length (zeros n) ≡ n
 unfolding zeros
 zeros-length n = length-replicate n 0
 
 places-few : (table : List ℕ) → length table ≤ mostPart → positionWidth * rows table ≤ mostPart
 places-few table h = omega arith
 
-module _ (table given space : List ℕ) (fit : PartsFit table given) (blank : space ≡ zeros mostPart) where
+module _ (sheet table given space : List ℕ) (fit : PartsFit sheet table given) (blank : space ≡ zeros mostPart) where
   space-length : length space ≡ mostPart
   space-length = ap length blank ∙ zeros-length mostPart
 
@@ -118,6 +121,15 @@ pub same-call : (date : ℕ) (sheet table given register positions report : List
     → register ≡ given → positions ≡ zeros (positionWidth * rows table) → report ≡ zeros mostPart
     → outcomeText (outcome (callOf date sheet table register positions report)) ≡ outcomeText (outcome (callWith date sheet table given))
 same-call date sheet table given register positions report er ep eo = rw (er, ep, eo)
+
+-- what is lent of the positions is short, so that the answer is too
+pub answer-fits : (sheet table given positions : List ℕ) (n : ℕ) → PartsFit sheet table given → n ≡ rows table → length positions ≡ positionWidth * n
+    → 2 * length sheet + 6 * length positions + 13 ≤ mostResponse
+answer-fits sheet table given positions n fit is long =
+    let few : positionWidth * n ≤ mostPart = rw is (places-few table (fit .tableFits)) in
+    let small = fit .sheetFits in
+    let table-small = fit .tableFits in
+    omega arith
 
 -- ---- the text of an outcome
 
@@ -161,3 +173,6 @@ pub response-is : (input sheet table register : List ℕ) (date : ℕ) (told : B
     → outcomeText (outcome (callWith date sheet table register)) ≡ response input
 unfolding response
 response-is input sheet table register date told is e ed es et er = rw (ed, es, et, er) (sym (rw (← is, e)))
+
+pub refusal-fits : length (refusalText anotherShape) ≤ mostResponse
+refusal-fits = le-trans (refusal-short anotherShape (lit< tt)) (lit≤ tt)

@@ -1,6 +1,5 @@
 -- The lines that are printed of a report, of positions and of a register, from their bytes. Assumes nothing.
 use Prim.Native.Char.{code}
-use Prim.Native.String.{String}
 use Prim.Native.Nat.{ℕ, zero, suc, _+_, _*_, _/_, _^_}
 use mathlib.Core.Bool.{cond}
 use mathlib.Core.List.{List, [], _∷_, _++_, map}

@@ -76,5 +76,9 @@ outcomeText o =
 abbrev pub anotherShape : ℕ
 anotherShape = 99
 
+-- no response is longer: twice the longest sheet, 48 for each row of the longest table, and one line more are less
+abbrev pub mostResponse : ℕ
+mostResponse = 73728
+
 unfoldable pub response : List ℕ → List ℕ
 response input = cond (inShape input) (outcomeText (outcome (callIn input))) (refusalText anotherShape)

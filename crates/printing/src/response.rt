@@ -1,9 +1,11 @@
 // What is printed for an input: the file in it is judged, with positions of 0 and room for any report.
 ghost use mathlib.Core.Path.{_≡_};
+ghost use Prim.Native.Nat.{_+_, _*_};
+ghost use lib.ListN.{length};
 ghost use Rattle.judging.specs.Outcome.{outcome};
 ghost use Rattle.judging.specs.Ready.{callOf};
-ghost use Rattle.printing.specs.Response.{mostPart, zeros, outcomeText, callWith};
-ghost use Rattle.printing.specs.Writing.{Printed, PartsFit};
+ghost use Rattle.printing.specs.Response.{mostPart, mostResponse, zeros, outcomeText, callWith};
+ghost use Rattle.printing.specs.Writing.{PrintedWithin, PartsFit};
 use crate::lines;
 use crate::sections;
 use judging::Answer;
@@ -21,7 +23,7 @@ fn put_answer(
     positions: &mut [u8],
     report: &mut [u8],
 ) -> usize
-    ensures { λ r. ⌜ Printed (now (out .entry)) (now (out .exit)) 0 r (outcomeText (outcome (callOf date (now (sheet .entry)) (now (table .entry)) (now (register .entry)) (now (positions .entry)) (now (report .entry))))) ⌝ }
+    ensures { λ r. ⌜ PrintedWithin (2 * length (now (sheet .entry)) + 6 * length (now (positions .entry)) + 13) (now (out .entry)) (now (out .exit)) 0 r (outcomeText (outcome (callOf date (now (sheet .entry)) (now (table .entry)) (now (register .entry)) (now (positions .entry)) (now (report .entry))))) ⌝ }
 {
     let answered = judging::judge(date, sheet, table, register, positions, report);
     match answered {
@@ -50,8 +52,8 @@ pub(crate) fn put_judgement(
     table: &[u8],
     given: &[u8],
 ) -> usize
-    requires { ⌜ PartsFit (now table) (now given) ⌝ }
-    ensures { λ r. ⌜ Printed (now (out .entry)) (now (out .exit)) 0 r (outcomeText (outcome (callWith date (now (sheet .entry)) (now (table .entry)) (now (given .entry))))) ⌝ }
+    requires { ⌜ PartsFit (now sheet) (now table) (now given) ⌝ }
+    ensures { λ r. ⌜ PrintedWithin mostResponse (now (out .entry)) (now (out .exit)) 0 r (outcomeText (outcome (callWith date (now (sheet .entry)) (now (table .entry)) (now (given .entry))))) ⌝ }
 {
     let mut register = space();
     let mut positions = space();

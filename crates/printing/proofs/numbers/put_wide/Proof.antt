@@ -1,5 +1,4 @@
 -- `printing::numbers::put_wide` meets its contract: the limbs keep to 64 bits, and the two pieces are the number. Assumes nothing.
-use Prim.Native.Nat.{_<_, _^_}
 use native.Mathlib.Omega.{arith}
 use Rattle.printing.proofs.Limbs.{half-small, high-fits, scaled-fits, front-fits, no-front, front}
 use Rattle.printing.proofs.Runs.{then, reading}
