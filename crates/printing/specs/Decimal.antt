@@ -19,6 +19,6 @@ unfoldable pub decimalIn : ℕ → ℕ → List ℕ
 decimalIn zero n = []
 decimalIn (suc k) n = let longer = decimalIn k (n / 10) ++ (digit n ∷ []) in cond (ltb n 10) (digit n ∷ []) longer
 
--- no number has more digits than it counts
+-- n + 1 digits are enough for any n; `one-digit` and `more-digits` of the proofs say what this comes to
 unfoldable pub decimal : ℕ → List ℕ
 decimal n = decimalIn (suc n) n

@@ -72,14 +72,15 @@ unfoldable pub messagesText : ℕ → List ℕ → List ℕ
 messagesText zero lines = []
 messagesText (suc n) lines = messageText (take messageLineWidth lines) ++ messagesText n (drop messageLineWidth lines)
 
--- what stands first in the bytes, and what follows
+-- the count that some bytes begin with
 abbrev pub countIn : List ℕ → ℕ
 countIn s = numberAt s 0 4
 
--- a section: its count, then so many message lines
+-- the first section: its count, then so many message lines
 abbrev pub sectionText : List ℕ → List ℕ
 sectionText sections = messagesText (countIn sections) (drop 4 sections)
 
+-- the sections after it
 abbrev pub afterSection : List ℕ → List ℕ
 afterSection sections = drop (4 + messageLineWidth * countIn sections) sections
 

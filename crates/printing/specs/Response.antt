@@ -76,7 +76,7 @@ outcomeText o =
 abbrev pub anotherShape : ℕ
 anotherShape = 99
 
--- no response is longer: twice the longest sheet, 48 for each row of the longest table, and one line more are less
+-- more than twice the longest sheet, 48 bytes for each row of the longest table and one line: no response is longer
 abbrev pub mostResponse : ℕ
 mostResponse = 73728
 

@@ -3,7 +3,7 @@ ghost use mathlib.Core.Path.{_≡_};
 ghost use Rattle.printing.specs.Response.{fits, partIn, afterPart, tableOn, registerOn, sheetOn, inShape};
 
 // The longest part that is taken.
-const MOST_PART: usize = 16384;
+pub(crate) const MOST_PART: usize = 16384;
 
 // Whether a part and its length stand at the start of the input's rest, and the part isn't too long.
 fn fits(rest: &[u8]) -> bool

@@ -6,12 +6,10 @@ ghost use Rattle.judging.specs.Outcome.{outcome};
 ghost use Rattle.judging.specs.Ready.{callOf};
 ghost use Rattle.printing.specs.Response.{mostPart, mostResponse, zeros, outcomeText, callWith};
 ghost use Rattle.printing.specs.Writing.{PrintedWithin, PartsFit};
+use crate::input::MOST_PART;
 use crate::lines;
 use crate::sections;
 use judging::Answer;
-
-// Room for a part, and for what is said of one.
-const MOST_PART: usize = 16384;
 
 // Has a file judged, and prints the answer.
 fn put_answer(
@@ -38,6 +36,7 @@ fn put_answer(
     }
 }
 
+// Room for a part, and for what is said of one.
 fn space() -> [u8; MOST_PART]
     ensures { λ r. ⌜ r ≡ zeros mostPart ⌝ }
 {
@@ -60,7 +59,7 @@ pub(crate) fn put_judgement(
     let mut report = space();
     wire::put_text(&mut register, 0, given);
     let taken = given.len();
-    let places = 8 * routing::rows(table);
+    let places = sections::POSITION * routing::rows(table);
     put_answer(
         out,
         date,
