@@ -1,0 +1,17 @@
+-- `edges::files::put_bulks` is safe and ends: no turn changes how many bytes it was lent. Assumes nothing.
+use mathlib.Core.Path.{_≡_}
+use Prim.Native.Nat.{_-_}
+use lib.ListN.{length}
+use borrow.Author.Needs.{needs}
+use Rattle.edges.proofs.files.put_bulks.Statement.{statement}
+use Rattle.edges.proofs.files.put_bulks.Tie as tie
+
+abbrev Inv-loop : tie.InvT-loop
+Inv-loop sheet₀ n i₀ sheet i =
+    length sheet ≡ length sheet₀
+
+abbrev μ-loop : tie.MeasureT-loop
+μ-loop sheet₀ n i₀ sheet i = n - i
+
+pub put-bulks-spec : {M : Type 1} → statement M
+put-bulks-spec = tie.close (tie.spec Inv-loop μ-loop (λ c κs. search needs) (λ c. search needs) (λ c κs. search needs) (λ c. search needs) (λ c. search needs) (λ c. search needs) (λ c. search needs) (λ c. search needs))
