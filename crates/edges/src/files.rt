@@ -39,34 +39,34 @@ pub(crate) const MESSAGE: usize = 81;
 
 const HEADER: usize = 65;
 
-pub(crate) const ENTRY: usize = 44;
+const ENTRY: usize = 44;
 
 // Lengths: of the table, of a small register, and of a file of one bulk by its messages.
-pub(crate) const TABLE: usize = 64;
+const TABLE: usize = 64;
 
-pub(crate) const REGISTER: usize = 356;
+const REGISTER: usize = 356;
 
-pub(crate) const NO_MESSAGE: usize = 73;
+const NO_MESSAGE: usize = 73;
 
-pub(crate) const ONE_MESSAGE: usize = 154;
+const ONE_MESSAGE: usize = 154;
 
-pub(crate) const TWO_MESSAGES: usize = 235;
+const TWO_MESSAGES: usize = 235;
 
 // Room for the largest file, for the register that it needs and for its report.
 const LARGE: usize = 1215196;
 
-const BLANK: usize = 35;
+const IDENTIFIER_WIDTH: usize = 35;
 
-// Zeros. The contract spares callers the counting.
+// So many zeros. The contract spares callers the counting.
 pub(crate) fn large() -> [u8; LARGE]
     ensures { λ r. ⌜ 1215196 ≡ length r ⌝ }
 {
     [0u8; LARGE]
 }
 
-// An identifier, or any text that stands alone in its 35 bytes.
+// An identifier, filled up to its 35 bytes.
 pub(crate) fn put_padded(sheet: &mut [u8], at: usize, words: &[u8]) {
-    let blank = [b' '; BLANK];
+    let blank = [b' '; IDENTIFIER_WIDTH];
     wire::put_text(sheet, at, &blank);
     wire::put_text(sheet, at, words);
 }
