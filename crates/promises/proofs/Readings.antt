@@ -1,0 +1,200 @@
+-- What a contract says of a struct or an enum through the value that it stands for says all of it: no two stand for the same.
+-- Assumes nothing.
+use mathlib.Core.Path.{_≡_, refl, sym, ap, _∙_}
+use mathlib.Core.Bool.{Bool, true, false, cond}
+use mathlib.Core.List.{List, [], _∷_, List·isSet}
+use mathlib.Core.Option.{Option, none, some}
+use Prim.Native.Nat.{ℕ, zero, suc, _+_, _*_, _^_, _<_}
+use native.Mathlib.Nat.{ℕ-set}
+use native.Mathlib.Omega.{arith}
+use lib.Dec.{eqb}
+use lib.ListN.{getD}
+use Rattle.promises.specs.Determined.{Held}
+use Rattle.wire.specs.declared.Halves.{Halves}
+use Rattle.wire.proofs.Halves.{the-row as halves-row}
+use Rattle.routing.specs.Lookup.{Routed, optionOf, valuesOf}
+use Rattle.routing.specs.declared.Found.{Found}
+use Rattle.routing.specs.declared.Found.the-variants.{Row as FoundRow, Nothing}
+use Rattle.routing.specs.declared.Refusal.{Refusal as TableRefusal}
+use Rattle.routing.specs.declared.Refusal.the-variants.{Date as BadDate, Table as BadTable, Bic as BadBic}
+use Rattle.routing.specs.declared.Answer.{Answer as RoutingAnswer}
+use Rattle.routing.specs.declared.Answer.the-variants.{Refused as TurnedAway, Missing, Row}
+use Rattle.sheet.specs.Reading.{CountRead, HeaderRead, MessageRead, shapeOf}
+use Rattle.sheet.specs.declared.Counted.{Counted}
+use Rattle.sheet.specs.declared.Header.{Header}
+use Rattle.sheet.specs.declared.Message.{Message}
+use Rattle.sheet.specs.declared.Shape.{Shape}
+use Rattle.sheet.specs.declared.Shape.the-variants.{Broken, Whole}
+use Rattle.report.specs.Tally.{centsOf, totalsOf}
+use Rattle.report.specs.Room.{SideTold}
+use Rattle.report.proofs.Cents.{the-row as cents-row}
+use Rattle.report.proofs.Side.{the-row as side-row}
+use Rattle.report.proofs.Tally.{the-row as tally-row}
+use Rattle.report.specs.declared.Cents.{Cents}
+use Rattle.report.specs.declared.Side.{Side}
+use Rattle.report.specs.declared.Tally.{Tally}
+use Rattle.judging.specs.Outcome.{Outcome, answerNumber, answerLength, left}
+use Rattle.judging.specs.declared.Refusal.{Refusal}
+use Rattle.judging.specs.declared.Refusal.the-variants.{Date, Table, Positions, Register, Sheet, Size, Kind, Order, Room, Limit, Space}
+use Rattle.judging.specs.declared.Answer.{Answer}
+use Rattle.judging.specs.declared.Answer.the-variants.{Refused, Judged}
+use Rattle.tynderaxo.specs.Doors.{leftBy, routedBy}
+use Rattle.tynderaxo.specs.declared.TynderaxoAnswer.{TynderaxoAnswer}
+use Rattle.tynderaxo.specs.declared.TynderaxoRoute.{TynderaxoRoute}
+
+-- ---- an enum is read back from its values
+
+foundOf : Option ℕ → Found
+foundOf none = Nothing
+foundOf (some i) = FoundRow i
+
+found-back : (x : Found) → foundOf (optionOf x) ≡ x
+unfolding foundOf
+found-back (FoundRow i) = refl
+found-back Nothing = refl
+
+pub found-one : {x y : Found} → optionOf x ≡ optionOf y → x ≡ y
+found-one {x} {y} e = sym (found-back x) ∙ ap foundOf e ∙ found-back y
+
+shapeFrom : Option (ℕ × ℕ) → Shape
+shapeFrom none = Broken
+shapeFrom (some n) = Whole (n .0) (n .1)
+
+shape-back : (x : Shape) → shapeFrom (shapeOf x) ≡ x
+unfolding shapeFrom
+shape-back Broken = refl
+shape-back (Whole bulks messages) = refl
+
+pub shape-one : {x y : Shape} → shapeOf x ≡ shapeOf y → x ≡ y
+shape-one {x} {y} e = sym (shape-back x) ∙ ap shapeFrom e ∙ shape-back y
+
+routedFrom : ℕ → ℕ → ℕ → ℕ → RoutingAnswer
+routedFrom zero zero row reachable = Missing
+routedFrom zero (suc found) row reachable = Row row (eqb reachable 1)
+routedFrom (suc n) found row reachable = TurnedAway (cond (eqb n 0) BadDate (cond (eqb n 1) BadTable BadBic))
+
+routedOf : Routed → RoutingAnswer
+routedOf v = routedFrom (v .number) (v .found) (v .row) (v .reachable)
+
+routed-back : (x : RoutingAnswer) → routedOf (valuesOf x) ≡ x
+unfolding routedOf routedFrom
+routed-back (TurnedAway BadDate) = refl
+routed-back (TurnedAway BadTable) = refl
+routed-back (TurnedAway BadBic) = refl
+routed-back Missing = refl
+routed-back (Row i true) = refl
+routed-back (Row i false) = refl
+
+pub routed-one : {x y : RoutingAnswer} → valuesOf x ≡ valuesOf y → x ≡ y
+routed-one {x} {y} e = sym (routed-back x) ∙ ap routedOf e ∙ routed-back y
+
+answerFrom : ℕ → ℕ → Answer
+answerFrom zero length = Judged length
+answerFrom (suc n) length =
+    Refused (getD (Date ∷ Table ∷ Positions ∷ Register ∷ Sheet ∷ Size ∷ Kind ∷ Order ∷ Room ∷ Limit ∷ Space ∷ []) n Date)
+
+answer-back : (x : Answer) → answerFrom (answerNumber x) (answerLength x) ≡ x
+unfolding answerFrom
+answer-back (Refused Date) = refl
+answer-back (Refused Table) = refl
+answer-back (Refused Positions) = refl
+answer-back (Refused Register) = refl
+answer-back (Refused Sheet) = refl
+answer-back (Refused Size) = refl
+answer-back (Refused Kind) = refl
+answer-back (Refused Order) = refl
+answer-back (Refused Room) = refl
+answer-back (Refused Limit) = refl
+answer-back (Refused Space) = refl
+answer-back (Judged n) = refl
+
+pub answer-one : {x y : Answer} → answerNumber x ≡ answerNumber y → answerLength x ≡ answerLength y → x ≡ y
+answer-one {x} {y} e e' = sym (answer-back x) ∙ (λ i. answerFrom (e i) (e' i)) ∙ answer-back y
+
+-- ---- a struct is its fields
+
+pub count-one : {s : List ℕ} {at : ℕ} {x y : Counted} → CountRead s at x → CountRead s at y → x ≡ y
+count-one t t' = λ i. record { count = (t .count ∙ sym (t' .count)) i; next = record { at = (t .moved ∙ sym (t' .moved)) i } }
+
+pub header-one : {s : List ℕ} {at : ℕ} {x y : Header} → HeaderRead s at x → HeaderRead s at y → x ≡ y
+header-one t t' = λ i. record {
+  at = (t .place ∙ sym (t' .place)) i;
+  kind = (t .kind ∙ sym (t' .kind)) i;
+  number = (t .number ∙ sym (t' .number)) i;
+  sum = (t .sum ∙ sym (t' .sum)) i;
+  date = (t .date ∙ sym (t' .date)) i;
+  marks = (t .marks ∙ sym (t' .marks)) i;
+  next = record { at = (t .moved ∙ sym (t' .moved)) i };
+}
+
+pub message-one : {s : List ℕ} {at : ℕ} {x y : Message} → MessageRead s at x → MessageRead s at y → x ≡ y
+message-one t t' = λ i. record {
+  at = (t .place ∙ sym (t' .place)) i;
+  amount = (t .amount ∙ sym (t' .amount)) i;
+  original = (t .original ∙ sym (t' .original)) i;
+  next = record { at = (t .moved ∙ sym (t' .moved)) i };
+}
+
+-- ---- two halves are their value, where the low one has no more than its bits
+
+low-one : (h h' l l' : ℕ) → l < 2 ^ 64 → l' < 2 ^ 64 → h * 2 ^ 64 + l ≡ h' * 2 ^ 64 + l' → l ≡ l'
+low-one h h' l l' small small' e = omega arith
+
+high-one : (h h' l l' : ℕ) → l < 2 ^ 64 → l' < 2 ^ 64 → h * 2 ^ 64 + l ≡ h' * 2 ^ 64 + l' → h ≡ h'
+high-one h h' l l' small small' e = omega arith
+
+pub halves-one : {x y : Halves} → Held halves-row x → Held halves-row y → x .0 * 2 ^ 64 + x .1 ≡ y .0 * 2 ^ 64 + y .1 → x ≡ y
+halves-one {x} {y} p q e = λ i. record {
+  0 = high-one (x .0) (y .0) (x .1) (y .1) (p .1 .1 .1 .1 .0 .1) (q .1 .1 .1 .1 .0 .1) e i;
+  1 = low-one (x .0) (y .0) (x .1) (y .1) (p .1 .1 .1 .1 .0 .1) (q .1 .1 .1 .1 .0 .1) e i;
+}
+
+small-one : {x y : Cents} → x .1 < 2 ^ 64 → y .1 < 2 ^ 64 → centsOf x ≡ centsOf y → x ≡ y
+small-one {x} {y} p q e = λ i. record {
+  0 = high-one (x .0) (y .0) (x .1) (y .1) p q e i;
+  1 = low-one (x .0) (y .0) (x .1) (y .1) p q e i;
+}
+
+pub cents-one : {x y : Cents} → Held cents-row x → Held cents-row y → centsOf x ≡ centsOf y → x ≡ y
+cents-one p q e = small-one (p .1 .1 .1 .1 .0 .1) (q .1 .1 .1 .1 .0 .1) e
+
+pub side-one : {x y : Side} {number cents : ℕ} → Held side-row x → Held side-row y → SideTold x number cents → SideTold y number cents → x ≡ y
+side-one {x} {y} p q t t' = λ i. record {
+  number = record { 0 = (t .numberIs ∙ sym (t' .numberIs)) i };
+  cents = small-one {x = x .cents} {y = y .cents} (p .1 .1 .1 .1 .0 .1 .1 .1 .0 .1) (q .1 .1 .1 .1 .0 .1 .1 .1 .0 .1) (t .centsIs ∙ sym (t' .centsIs)) i;
+}
+
+pub tally-one : {x y : Tally} → Held tally-row x → Held tally-row y → totalsOf x ≡ totalsOf y → x ≡ y
+tally-one {x} {y} p q e = λ i. record {
+  accepted = record {
+    number = record { 0 = e i .acceptedNumber };
+    cents = small-one {x = x .accepted .cents} {y = y .accepted .cents} (p .1 .1 .1 .0 .1 .1 .1 .0 .1 .1 .1 .0 .1) (q .1 .1 .1 .0 .1 .1 .1 .0 .1 .1 .1 .0 .1) (λ k. e k .acceptedCents) i;
+  };
+  rejected = record {
+    number = record { 0 = e i .rejectedNumber };
+    cents = small-one {x = x .rejected .cents} {y = y .rejected .cents} (p .1 .1 .1 .1 .0 .1 .1 .1 .0 .1 .1 .1 .0 .1) (q .1 .1 .1 .1 .0 .1 .1 .1 .0 .1 .1 .1 .0 .1) (λ k. e k .rejectedCents) i;
+  };
+}
+
+-- ---- an outcome is its number, its length and its bytes
+pub outcomes : IsSet Outcome
+outcomes x y p q = λ j i. record {
+  number = ℕ-set (x .number) (y .number) (λ k. p k .number) (λ k. q k .number) j i;
+  length = ℕ-set (x .length) (y .length) (λ k. p k .length) (λ k. q k .length) j i;
+  register = List·isSet ℕ-set (x .register) (y .register) (λ k. p k .register) (λ k. q k .register) j i;
+  positions = List·isSet ℕ-set (x .positions) (y .positions) (λ k. p k .positions) (λ k. q k .positions) j i;
+  report = List·isSet ℕ-set (x .report) (y .report) (λ k. p k .report) (λ k. q k .report) j i;
+}
+
+-- what a judging call leaves: nothing of the date, the sheet and the table, and the bytes of register, positions and report
+abbrev Left : Type 0
+Left = Unit {0} × (Unit {0} × (Unit {0} × (List ℕ × (List ℕ × (List ℕ × Unit {0})))))
+
+pub judged-one : {x y : Answer} {ws ws' : Left} → left x (ws .1 .1 .1 .0) (ws .1 .1 .1 .1 .0) (ws .1 .1 .1 .1 .1 .0) ≡ left y (ws' .1 .1 .1 .0) (ws' .1 .1 .1 .1 .0) (ws' .1 .1 .1 .1 .1 .0) → (x ≡ y) × (ws ≡ ws')
+judged-one e = (answer-one (λ i. e i .number) (λ i. e i .length), λ i. (tt, (tt, (tt, (e i .register, (e i .positions, (e i .report, tt)))))))
+
+pub door-one : {x y : TynderaxoAnswer} {ws ws' : Left} → leftBy x (ws .1 .1 .1 .0) (ws .1 .1 .1 .1 .0) (ws .1 .1 .1 .1 .1 .0) ≡ leftBy y (ws' .1 .1 .1 .0) (ws' .1 .1 .1 .1 .0) (ws' .1 .1 .1 .1 .1 .0) → (x ≡ y) × (ws ≡ ws')
+door-one e = (λ i. record { number = e i .number; length = e i .length }, λ i. (tt, (tt, (tt, (e i .register, (e i .positions, (e i .report, tt)))))))
+
+pub way-one : {x y : TynderaxoRoute} → routedBy x ≡ routedBy y → x ≡ y
+way-one e = λ i. record { number = e i .number; found = e i .found; row = e i .row; reachable = e i .reachable }
