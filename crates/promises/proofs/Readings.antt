@@ -13,6 +13,7 @@ use Rattle.promises.specs.Determined.{Held}
 use Rattle.wire.specs.declared.Halves.{Halves}
 use Rattle.wire.proofs.Halves.{the-row as halves-row}
 use Rattle.routing.specs.Lookup.{Routed, optionOf, valuesOf}
+use Rattle.routing.specs.Promise.{RowTold, AnswerTold}
 use Rattle.routing.specs.declared.Found.{Found}
 use Rattle.routing.specs.declared.Found.the-variants.{Row as FoundRow, Nothing}
 use Rattle.routing.specs.declared.Refusal.{Refusal as TableRefusal}
@@ -25,7 +26,7 @@ use Rattle.sheet.specs.declared.Header.{Header}
 use Rattle.sheet.specs.declared.Message.{Message}
 use Rattle.sheet.specs.declared.Shape.{Shape}
 use Rattle.sheet.specs.declared.Shape.the-variants.{Broken, Whole}
-use Rattle.report.specs.Tally.{centsOf, totalsOf}
+use Rattle.report.specs.Tally.{Totals, centsOf, totalsOf}
 use Rattle.report.specs.Room.{SideTold}
 use Rattle.report.proofs.Cents.{the-row as cents-row}
 use Rattle.report.proofs.Side.{the-row as side-row}
@@ -33,6 +34,7 @@ use Rattle.report.proofs.Tally.{the-row as tally-row}
 use Rattle.report.specs.declared.Cents.{Cents}
 use Rattle.report.specs.declared.Side.{Side}
 use Rattle.report.specs.declared.Tally.{Tally}
+use Rattle.rules.specs.Asked.{wholeOf}
 use Rattle.judging.specs.Outcome.{Outcome, answerNumber, answerLength, left}
 use Rattle.judging.specs.declared.Refusal.{Refusal}
 use Rattle.judging.specs.declared.Refusal.the-variants.{Date, Table, Positions, Register, Sheet, Size, Kind, Order, Room, Limit, Space}
@@ -53,8 +55,8 @@ unfolding foundOf
 found-back (FoundRow i) = refl
 found-back Nothing = refl
 
-pub found-one : {x y : Found} → optionOf x ≡ optionOf y → x ≡ y
-found-one {x} {y} e = sym (found-back x) ∙ ap foundOf e ∙ found-back y
+pub found-one : {table : List ℕ} {e : Option ℕ} {x y : Found} → RowTold table (optionOf x) e → RowTold table (optionOf y) e → x ≡ y
+found-one {x = x} {y = y} p q = sym (found-back x) ∙ ap foundOf (p .is ∙ sym (q .is)) ∙ found-back y
 
 shapeFrom : Option (ℕ × ℕ) → Shape
 shapeFrom none = Broken
@@ -65,8 +67,8 @@ unfolding shapeFrom
 shape-back Broken = refl
 shape-back (Whole bulks messages) = refl
 
-pub shape-one : {x y : Shape} → shapeOf x ≡ shapeOf y → x ≡ y
-shape-one {x} {y} e = sym (shape-back x) ∙ ap shapeFrom e ∙ shape-back y
+pub shape-one : {e : Option (ℕ × ℕ)} {x y : Shape} → shapeOf x ≡ e → shapeOf y ≡ e → x ≡ y
+shape-one {x = x} {y = y} p q = sym (shape-back x) ∙ ap shapeFrom (p ∙ sym q) ∙ shape-back y
 
 routedFrom : ℕ → ℕ → ℕ → ℕ → RoutingAnswer
 routedFrom zero zero row reachable = Missing
@@ -85,8 +87,8 @@ routed-back Missing = refl
 routed-back (Row i true) = refl
 routed-back (Row i false) = refl
 
-pub routed-one : {x y : RoutingAnswer} → valuesOf x ≡ valuesOf y → x ≡ y
-routed-one {x} {y} e = sym (routed-back x) ∙ ap routedOf e ∙ routed-back y
+pub routed-one : {table : List ℕ} {e : Routed} {x y : RoutingAnswer} → AnswerTold table x e → AnswerTold table y e → x ≡ y
+routed-one {x = x} {y = y} p q = sym (routed-back x) ∙ ap routedOf (p .is ∙ sym (q .is)) ∙ routed-back y
 
 answerFrom : ℕ → ℕ → Answer
 answerFrom zero length = Judged length
@@ -108,31 +110,31 @@ answer-back (Refused Limit) = refl
 answer-back (Refused Space) = refl
 answer-back (Judged n) = refl
 
-pub answer-one : {x y : Answer} → answerNumber x ≡ answerNumber y → answerLength x ≡ answerLength y → x ≡ y
+answer-one : {x y : Answer} → answerNumber x ≡ answerNumber y → answerLength x ≡ answerLength y → x ≡ y
 answer-one {x} {y} e e' = sym (answer-back x) ∙ (λ i. answerFrom (e i) (e' i)) ∙ answer-back y
 
 -- ---- a struct is its fields
 
 pub count-one : {s : List ℕ} {at : ℕ} {x y : Counted} → CountRead s at x → CountRead s at y → x ≡ y
-count-one t t' = λ i. record { count = (t .count ∙ sym (t' .count)) i; next = record { at = (t .moved ∙ sym (t' .moved)) i } }
+count-one p q = λ i. record { count = (p .count ∙ sym (q .count)) i; next = record { at = (p .moved ∙ sym (q .moved)) i } }
 
 pub header-one : {s : List ℕ} {at : ℕ} {x y : Header} → HeaderRead s at x → HeaderRead s at y → x ≡ y
-header-one t t' = λ i. record {
-  at = (t .place ∙ sym (t' .place)) i;
-  kind = (t .kind ∙ sym (t' .kind)) i;
-  number = (t .number ∙ sym (t' .number)) i;
-  sum = (t .sum ∙ sym (t' .sum)) i;
-  date = (t .date ∙ sym (t' .date)) i;
-  marks = (t .marks ∙ sym (t' .marks)) i;
-  next = record { at = (t .moved ∙ sym (t' .moved)) i };
+header-one p q = λ i. record {
+  at = (p .place ∙ sym (q .place)) i;
+  kind = (p .kind ∙ sym (q .kind)) i;
+  number = (p .number ∙ sym (q .number)) i;
+  sum = (p .sum ∙ sym (q .sum)) i;
+  date = (p .date ∙ sym (q .date)) i;
+  marks = (p .marks ∙ sym (q .marks)) i;
+  next = record { at = (p .moved ∙ sym (q .moved)) i };
 }
 
 pub message-one : {s : List ℕ} {at : ℕ} {x y : Message} → MessageRead s at x → MessageRead s at y → x ≡ y
-message-one t t' = λ i. record {
-  at = (t .place ∙ sym (t' .place)) i;
-  amount = (t .amount ∙ sym (t' .amount)) i;
-  original = (t .original ∙ sym (t' .original)) i;
-  next = record { at = (t .moved ∙ sym (t' .moved)) i };
+message-one p q = λ i. record {
+  at = (p .place ∙ sym (q .place)) i;
+  amount = (p .amount ∙ sym (q .amount)) i;
+  original = (p .original ∙ sym (q .original)) i;
+  next = record { at = (p .moved ∙ sym (q .moved)) i };
 }
 
 -- ---- two halves are their value, where the low one has no more than its bits
@@ -143,10 +145,10 @@ low-one h h' l l' small small' e = omega arith
 high-one : (h h' l l' : ℕ) → l < 2 ^ 64 → l' < 2 ^ 64 → h * 2 ^ 64 + l ≡ h' * 2 ^ 64 + l' → h ≡ h'
 high-one h h' l l' small small' e = omega arith
 
-pub halves-one : {x y : Halves} → Held halves-row x → Held halves-row y → x .0 * 2 ^ 64 + x .1 ≡ y .0 * 2 ^ 64 + y .1 → x ≡ y
-halves-one {x} {y} p q e = λ i. record {
-  0 = high-one (x .0) (y .0) (x .1) (y .1) (p .1 .1 .1 .1 .0 .1) (q .1 .1 .1 .1 .0 .1) e i;
-  1 = low-one (x .0) (y .0) (x .1) (y .1) (p .1 .1 .1 .1 .0 .1) (q .1 .1 .1 .1 .0 .1) e i;
+pub halves-one : {n : ℕ} {x y : Halves} → Held halves-row x → Held halves-row y → wholeOf x ≡ n → wholeOf y ≡ n → x ≡ y
+halves-one {x = x} {y = y} p q t t' = λ i. record {
+  0 = high-one (x .0) (y .0) (x .1) (y .1) (p .1 .1 .1 .1 .0 .1) (q .1 .1 .1 .1 .0 .1) (t ∙ sym t') i;
+  1 = low-one (x .0) (y .0) (x .1) (y .1) (p .1 .1 .1 .1 .0 .1) (q .1 .1 .1 .1 .0 .1) (t ∙ sym t') i;
 }
 
 small-one : {x y : Cents} → x .1 < 2 ^ 64 → y .1 < 2 ^ 64 → centsOf x ≡ centsOf y → x ≡ y
@@ -155,24 +157,30 @@ small-one {x} {y} p q e = λ i. record {
   1 = low-one (x .0) (y .0) (x .1) (y .1) p q e i;
 }
 
-pub cents-one : {x y : Cents} → Held cents-row x → Held cents-row y → centsOf x ≡ centsOf y → x ≡ y
-cents-one p q e = small-one (p .1 .1 .1 .1 .0 .1) (q .1 .1 .1 .1 .0 .1) e
+pub cents-one : {n : ℕ} {x y : Cents} → Held cents-row x → Held cents-row y → centsOf x ≡ n → centsOf y ≡ n → x ≡ y
+cents-one p q t t' = small-one (p .1 .1 .1 .1 .0 .1) (q .1 .1 .1 .1 .0 .1) (t ∙ sym t')
 
-pub side-one : {x y : Side} {number cents : ℕ} → Held side-row x → Held side-row y → SideTold x number cents → SideTold y number cents → x ≡ y
+pub side-one : {x y : Side} {number cents : ℕ} → Held side-row x → Held side-row y → SideTold x number cents → SideTold y number cents
+    → x ≡ y
 side-one {x} {y} p q t t' = λ i. record {
   number = record { 0 = (t .numberIs ∙ sym (t' .numberIs)) i };
-  cents = small-one {x = x .cents} {y = y .cents} (p .1 .1 .1 .1 .0 .1 .1 .1 .0 .1) (q .1 .1 .1 .1 .0 .1 .1 .1 .0 .1) (t .centsIs ∙ sym (t' .centsIs)) i;
+  cents = small-one {x = x .cents} {y = y .cents} (p .1 .1 .1 .1 .0 .1 .1 .1 .0 .1) (q .1 .1 .1 .1 .0 .1 .1 .1 .0 .1)
+      (t .centsIs ∙ sym (t' .centsIs)) i;
 }
 
-pub tally-one : {x y : Tally} → Held tally-row x → Held tally-row y → totalsOf x ≡ totalsOf y → x ≡ y
-tally-one {x} {y} p q e = λ i. record {
+pub tally-one : {e : Totals} {x y : Tally} → Held tally-row x → Held tally-row y → totalsOf x ≡ e → totalsOf y ≡ e → x ≡ y
+tally-one {x = x} {y = y} p q t t' = λ i. record {
   accepted = record {
-    number = record { 0 = e i .acceptedNumber };
-    cents = small-one {x = x .accepted .cents} {y = y .accepted .cents} (p .1 .1 .1 .0 .1 .1 .1 .0 .1 .1 .1 .0 .1) (q .1 .1 .1 .0 .1 .1 .1 .0 .1 .1 .1 .0 .1) (λ k. e k .acceptedCents) i;
+    number = record { 0 = (t ∙ sym t') i .acceptedNumber };
+    cents = small-one {x = x .accepted .cents} {y = y .accepted .cents}
+        (p .1 .1 .1 .0 .1 .1 .1 .0 .1 .1 .1 .0 .1) (q .1 .1 .1 .0 .1 .1 .1 .0 .1 .1 .1 .0 .1)
+        (λ k. (t ∙ sym t') k .acceptedCents) i;
   };
   rejected = record {
-    number = record { 0 = e i .rejectedNumber };
-    cents = small-one {x = x .rejected .cents} {y = y .rejected .cents} (p .1 .1 .1 .1 .0 .1 .1 .1 .0 .1 .1 .1 .0 .1) (q .1 .1 .1 .1 .0 .1 .1 .1 .0 .1 .1 .1 .0 .1) (λ k. e k .rejectedCents) i;
+    number = record { 0 = (t ∙ sym t') i .rejectedNumber };
+    cents = small-one {x = x .rejected .cents} {y = y .rejected .cents}
+        (p .1 .1 .1 .1 .0 .1 .1 .1 .0 .1 .1 .1 .0 .1) (q .1 .1 .1 .1 .0 .1 .1 .1 .0 .1 .1 .1 .0 .1)
+        (λ k. (t ∙ sym t') k .rejectedCents) i;
   };
 }
 
@@ -190,11 +198,32 @@ outcomes x y p q = λ j i. record {
 abbrev Left : Type 0
 Left = Unit {0} × (Unit {0} × (Unit {0} × (List ℕ × (List ℕ × (List ℕ × Unit {0})))))
 
-pub judged-one : {x y : Answer} {ws ws' : Left} → left x (ws .1 .1 .1 .0) (ws .1 .1 .1 .1 .0) (ws .1 .1 .1 .1 .1 .0) ≡ left y (ws' .1 .1 .1 .0) (ws' .1 .1 .1 .1 .0) (ws' .1 .1 .1 .1 .1 .0) → (x ≡ y) × (ws ≡ ws')
-judged-one e = (answer-one (λ i. e i .number) (λ i. e i .length), λ i. (tt, (tt, (tt, (e i .register, (e i .positions, (e i .report, tt)))))))
+left-one : {ws ws' : Left} → ws .1 .1 .1 .0 ≡ ws' .1 .1 .1 .0 → ws .1 .1 .1 .1 .0 ≡ ws' .1 .1 .1 .1 .0
+    → ws .1 .1 .1 .1 .1 .0 ≡ ws' .1 .1 .1 .1 .1 .0 → ws ≡ ws'
+left-one p q e = λ i. (tt, (tt, (tt, (p i, (q i, (e i, tt))))))
 
-pub door-one : {x y : TynderaxoAnswer} {ws ws' : Left} → leftBy x (ws .1 .1 .1 .0) (ws .1 .1 .1 .1 .0) (ws .1 .1 .1 .1 .1 .0) ≡ leftBy y (ws' .1 .1 .1 .0) (ws' .1 .1 .1 .1 .0) (ws' .1 .1 .1 .1 .1 .0) → (x ≡ y) × (ws ≡ ws')
-door-one e = (λ i. record { number = e i .number; length = e i .length }, λ i. (tt, (tt, (tt, (e i .register, (e i .positions, (e i .report, tt)))))))
+-- the outcomes that two answers and what they leave make up
+module _ (ws ws' : Left) where
+  abbrev outcomeOf : Left → (List ℕ → List ℕ → List ℕ → Outcome) → Outcome
+  outcomeOf vs make = make (vs .1 .1 .1 .0) (vs .1 .1 .1 .1 .0) (vs .1 .1 .1 .1 .1 .0)
 
-pub way-one : {x y : TynderaxoRoute} → routedBy x ≡ routedBy y → x ≡ y
-way-one e = λ i. record { number = e i .number; found = e i .found; row = e i .row; reachable = e i .reachable }
+  pub judged-one : {x y : Answer} → outcomeOf ws (left x) ≡ outcomeOf ws' (left y) → (x ≡ y) × (ws ≡ ws')
+  judged-one e = (
+    answer-one (λ i. e i .number) (λ i. e i .length),
+    left-one {ws = ws} {ws' = ws'} (λ i. e i .register) (λ i. e i .positions) (λ i. e i .report),
+  )
+
+  pub door-one : {x y : TynderaxoAnswer} → outcomeOf ws (leftBy x) ≡ outcomeOf ws' (leftBy y) → (x ≡ y) × (ws ≡ ws')
+  door-one e = (
+    λ i. record { number = e i .number; length = e i .length },
+    left-one {ws = ws} {ws' = ws'} (λ i. e i .register) (λ i. e i .positions) (λ i. e i .report),
+  )
+
+-- ---- the route that the door for C hands over is the four values of the lookup
+pub way-one : {e : Routed} {x y : TynderaxoRoute} → routedBy x ≡ e → routedBy y ≡ e → x ≡ y
+way-one p q = λ i. record {
+  number = (p ∙ sym q) i .number;
+  found = (p ∙ sym q) i .found;
+  row = (p ∙ sym q) i .row;
+  reachable = (p ∙ sym q) i .reachable;
+}

@@ -27,13 +27,13 @@ module _ {M : Type 1} (𝓤 : URA M) where
   unfolding sProp·Sat
   used prop f s = ∥∥₁-elim s prop (λ t. ∥∥₁-elim (t .1) prop (λ u. f (u .0)))
 
-  -- what two facts give together
-  pub both : {φ φ' ψ : Type 0} → IsProp ψ → (φ → φ' → ψ) → Told φ → Told φ' → ψ
-  both prop f h h' = used prop (λ p. used prop (λ p'. f p p') h') h
+  -- two values, where what is told of the one and of the other makes them equal
+  pub both : {X : Type 0} → IsSet X → {φ φ' : Type 0} {x x' : X} → (φ → φ' → x ≡ x') → Told φ → Told φ' → x ≡ x'
+  both set {x = x} {x' = x'} f h h' = used (set x x') (λ p. used (set x x') (λ p'. f p p') h') h
 
   -- two values that are both told to be e
   pub same : {X : Type 0} → IsSet X → (e : X) {x x' : X} → Told (x ≡ e) → Told (x' ≡ e) → x ≡ x'
-  same set e {x} {x'} h h' = both (set x x') (λ (p : x ≡ e) (p' : x' ≡ e). p ∙ sym p') h h'
+  same set e {x} {x'} h h' = both set (λ (p : x ≡ e) (p' : x' ≡ e). p ∙ sym p') h h'
 
   pub number : (e : ℕ) {x x' : ℕ} → Told (x ≡ e) → Told (x' ≡ e) → x ≡ x'
   number = same ℕ-set
