@@ -1,4 +1,5 @@
--- Each public function's contract determines what a call of it comes to. Assumes nothing.
+-- The contract of each public function determines what a call of it comes to: the result, and every byte left in what was lent. There
+-- is a statement for each function, crate by crate, and `.ci/determined` asks that none is missing. Assumes nothing.
 use mathlib.Core.Path.{_≡_, refl, sym, ap, _∙_}
 use mathlib.Core.Bool.{Bool-set}
 use mathlib.Core.List.{List}
@@ -31,8 +32,12 @@ use Rattle.judging.proofs as judging
 use Rattle.tynderaxo.proofs as tynderaxo
 
 module _ {M : Type 1} (𝓤 : URA M) (H : Heap 𝓤) (A : Atoms 𝓤) (mem : Memory → SProp 𝓤) (run : Routine → Fun 𝓤) where
-  -- of a function: its signature with what is lent, and its contract
-  abbrev pub Determined : (T : Ended) → ((𝓤 : URA M) (H : Heap 𝓤) → Atoms 𝓤 → (Memory → SProp 𝓤) → (Routine → Fun 𝓤) → Clauses 𝓤 T) → Type 1
+  -- a contract as Rattle makes it, for every logic in which a proof may stand
+  abbrev pub Contract : Ended → Type 2
+  Contract T = (𝓤 : URA M) (H : Heap 𝓤) → Atoms 𝓤 → (Memory → SProp 𝓤) → (Routine → Fun 𝓤) → Clauses 𝓤 T
+
+  -- the result itself is determined
+  abbrev pub Determined : (T : Ended) → Contract T → Type 1
   Determined T contract = Determines 𝓤 T (contract 𝓤 H A mem run) {Seen = λ κs. Res (T .signature) κs} (λ κs r. r)
 
   -- ---- wire
@@ -43,6 +48,7 @@ module _ {M : Type 1} (𝓤 : URA M) (H : Heap 𝓤) (A : Atoms 𝓤) (mem : Mem
   pub wire·number : Determined wire.number.ended wire.number.clauses
   wire·number κs a g r r' ws ws' h h' = (number 𝓤 _ (h .told) (h' .told), refl)
 
+  -- of a slice, the bytes: no contract says where they lie
   pub wire·text-at : Determines 𝓤 wire.text_at.ended (wire.text_at.clauses 𝓤 H A mem run) {Seen = λ κs. List ℕ} (λ κs r. now r)
   wire·text-at κs a g r r' ws ws' h h' = (bytes 𝓤 _ (h .told) (h' .told), refl)
 

@@ -1,3 +1,4 @@
 pub mod Told
 pub mod Readings
 pub mod Determined
+pub mod Control
