@@ -1,6 +1,6 @@
 -- Controls of `Determines`: a public contract does allow what its function comes to, so nothing is stated of no outcome at all; and two
 -- contracts that say less, as one might write them, are seen to leave a choice. Assumes nothing.
-use mathlib.Core.Path.{_≡_, refl, ap, _∙_, sym}
+use mathlib.Core.Path.{_≡_, refl, sym, ap}
 use mathlib.Core.List.{List, [], _∷_, head-eq-of-cons-eq}
 use Prim.Native.Nat.{ℕ, _≤_}
 use native.Mathlib.Omega.{arith}
@@ -16,10 +16,10 @@ use mir.Val.{vint, vunit}
 use contract.Lifetimes.{Lfts}
 use contract.Monad.{Fun, fact}
 use denote.Ref.{now}
-use denote.Triple.Entry.{Args, Res}
+use denote.Triple.Entry.{Args}
 use denote.Triple.Clauses.{Clauses, closing}
 use lib.ListN.{length}
-use Rattle.promises.specs.Determined.{Held, Allows, Determines}
+use Rattle.promises.specs.Determined.{Allows, Determines}
 use Rattle.promises.proofs.Told.{Told}
 use Rattle.wire.proofs as wire
 use Rattle.judging.proofs as judging

@@ -1,6 +1,6 @@
 -- The contract of each public function determines what a call of it comes to: the result, and every byte left in what was lent. There
 -- is a statement for each function, crate by crate, and `.ci/determined` asks that none is missing. Assumes nothing.
-use mathlib.Core.Path.{_≡_, refl, sym, ap, _∙_}
+use mathlib.Core.Path.{refl, sym, _∙_}
 use mathlib.Core.Bool.{Bool-set}
 use mathlib.Core.List.{List}
 use Prim.Native.Nat.{ℕ}

@@ -1,7 +1,7 @@
 -- What a contract says of a struct or an enum through the value that it stands for says all of it: no two stand for the same.
 -- Assumes nothing.
 use mathlib.Core.Path.{_≡_, refl, sym, ap, _∙_}
-use mathlib.Core.Bool.{Bool, true, false, cond}
+use mathlib.Core.Bool.{true, false, cond}
 use mathlib.Core.List.{List, [], _∷_, List·isSet}
 use mathlib.Core.Option.{Option, none, some}
 use Prim.Native.Nat.{ℕ, zero, suc, _+_, _*_, _^_, _<_}
@@ -16,7 +16,6 @@ use Rattle.routing.specs.Lookup.{Routed, optionOf, valuesOf}
 use Rattle.routing.specs.Promise.{RowTold, AnswerTold}
 use Rattle.routing.specs.declared.Found.{Found}
 use Rattle.routing.specs.declared.Found.the-variants.{Row as FoundRow, Nothing}
-use Rattle.routing.specs.declared.Refusal.{Refusal as TableRefusal}
 use Rattle.routing.specs.declared.Refusal.the-variants.{Date as BadDate, Table as BadTable, Bic as BadBic}
 use Rattle.routing.specs.declared.Answer.{Answer as RoutingAnswer}
 use Rattle.routing.specs.declared.Answer.the-variants.{Refused as TurnedAway, Missing, Row}
@@ -36,7 +35,6 @@ use Rattle.report.specs.declared.Side.{Side}
 use Rattle.report.specs.declared.Tally.{Tally}
 use Rattle.rules.specs.Asked.{wholeOf}
 use Rattle.judging.specs.Outcome.{Outcome, answerNumber, answerLength, left}
-use Rattle.judging.specs.declared.Refusal.{Refusal}
 use Rattle.judging.specs.declared.Refusal.the-variants.{Date, Table, Positions, Register, Sheet, Size, Kind, Order, Room, Limit, Space}
 use Rattle.judging.specs.declared.Answer.{Answer}
 use Rattle.judging.specs.declared.Answer.the-variants.{Refused, Judged}
@@ -137,7 +135,8 @@ message-one p q = λ i. record {
   next = record { at = (p .moved ∙ sym (q .moved)) i };
 }
 
--- ---- two halves are their value, where the low one has no more than its bits
+-- ---- two halves are their value: the low one is a u64. The long paths lead into what the struct's type holds, to that bound; without
+-- it (0, 2^64) and (1, 0) would stand for one number.
 
 low-one : (h h' l l' : ℕ) → l < 2 ^ 64 → l' < 2 ^ 64 → h * 2 ^ 64 + l ≡ h' * 2 ^ 64 + l' → l ≡ l'
 low-one h h' l l' small small' e = omega arith
