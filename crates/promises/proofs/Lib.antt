@@ -1,4 +1,7 @@
-pub mod Told
-pub mod Readings
-pub mod Determined
-pub mod Control
+pub mod Bulks
+pub mod Clear
+pub mod Cutting
+pub mod Fit
+pub mod Joined
+pub mod Lines
+pub mod Taken

@@ -1,1 +1,4 @@
 pub mod Determined
+pub mod Reading
+pub mod Cut
+pub mod Runs

@@ -1,0 +1,196 @@
+-- The cut, proved of the outcome that the judge is proved to compute. Assumes nothing.
+use mathlib.Core.Path.{_≡_, refl, sym, ap, ap₂, subst, _∙_}
+use mathlib.Core.Bool.{true, false}
+use mathlib.Core.List.{List, _++_, map-append}
+use Prim.Native.Nat.{ℕ, _+_, _-_, _*_, _^_, _≤_, _<_}
+use native.Mathlib.Nat.{add-zero, zero-add}
+use native.Mathlib.Omega.{arith}
+use lib.ListN.{length, drop, length-drop}
+use lib.Seq.{take-all}
+use Rattle.wire.specs.Field.{part, bytesOf}
+use Rattle.sheet.specs.Sheet.{headerWidth, Bulk, bulkCount, messageCount, firstSection, bulksFrom, bulksOf, messagesFrom, messagesIn, endFrom, kindsKnown, mixed}
+use Rattle.sheet.proofs.Laws.{whole-facts, end-forward, bulks-length, bulks-messages}
+use Rattle.positions.proofs.Moves.{room-less}
+use Rattle.rules.specs.Facts.{mostCents}
+use Rattle.judging.specs.Judgement.{State, judgeBulks}
+use Rattle.judging.specs.Refusals.{Call, refusal}
+use Rattle.judging.specs.Outcome.{Outcome, judgement, judgedOf, outcome}
+use Rattle.promises.specs.Reading.{InBytes, bulkLines, messageLines}
+use Rattle.promises.specs.Cut.{cutPlace, firstPart, secondPart, firstCall, secondCall, Enough, PartsMakeTheWhole, CutsAnywhere}
+use Rattle.promises.proofs.Bulks.{bulks-split, messages-split, end-split}
+use Rattle.promises.proofs.Clear.{Clear, clear-of, of-clear, number-is, outcome-judged, headers, known-parts, order-parts}
+use Rattle.promises.proofs.Fit.{Fit, bulks-fit}
+use Rattle.promises.proofs.Joined.{joins}
+use Rattle.promises.proofs.Lines.{bulk-lines-read, message-lines-read, bulk-number, message-number}
+use Rattle.promises.proofs.Taken.{Holds, taken-holds}
+
+module _ (call : Call) (clear : Clear call) (k : ℕ) (h : k ≤ bulkCount (call .sheet)) where
+  abbrev s : List ℕ
+  s = call .sheet
+
+  abbrev b : ℕ
+  b = bulkCount (call .sheet)
+
+  abbrev start : ℕ
+  start = firstSection (call .sheet)
+
+  abbrev cut : ℕ
+  cut = cutPlace (call .sheet) k
+
+  abbrev one : List ℕ
+  one = firstPart (call .sheet) k
+
+  abbrev two : List ℕ
+  two = secondPart (call .sheet) k
+
+  all : k + (b - k) ≡ b
+  all = omega arith
+
+  few : b < 256 ^ 4
+  few = (let f = clear .fewBulks in omega arith)
+
+  cut-ends : endFrom s (b - k) cut ≡ length s
+  cut-ends = sym (end-split s k (b - k) start) ∙ ap (λ (n : ℕ). endFrom s n start) all ∙ whole-facts s (clear .whole) .ended
+
+  first-holds : Holds one s k 4 start
+  first-holds =
+      let headed = whole-facts s (clear .whole) .headed in
+      let forward = end-forward s k start in
+      let later = end-forward s (b - k) cut in
+      let ends = cut-ends in
+      let small = few in
+      taken-holds s k 4 start (cut - start) (omega arith) (omega arith) (omega arith) (omega arith)
+
+  second-holds : Holds two s (b - k) (4 + headerWidth * k) cut
+  second-holds =
+      let headed = whole-facts s (clear .whole) .headed in
+      let later = end-forward s (b - k) cut in
+      let ends = cut-ends in
+      let small = few in
+      let rest : drop cut s ≡ part s cut (length s - cut) = sym (take-all (length s - cut) (drop cut s) (rw (length-drop cut s) (omega arith))) in
+      rw rest (taken-holds s (b - k) (4 + headerWidth * k) cut (length s - cut) (omega arith) (omega arith) (omega arith) (omega arith))
+
+  bulks-are : bulksOf s ≡ bulksOf one ++ bulksOf two
+  bulks-are =
+      ap (λ (n : ℕ). bulksFrom s n 4 start) (sym all)
+      ∙ bulks-split s k (b - k) 4 start
+      ∙ ap₂ (λ (x y : List Bulk). x ++ y) (sym (first-holds .bulks)) (sym (second-holds .bulks))
+
+  messages-are : messageCount s ≡ messageCount one + messageCount two
+  messages-are =
+      ap (λ (n : ℕ). messagesFrom s n start) (sym all)
+      ∙ messages-split s k (b - k) start
+      ∙ ap₂ _+_ (sym (first-holds .messages)) (sym (second-holds .messages))
+
+  kinds-are : (kindsKnown (headers (bulksOf one)) ≡ true) × (kindsKnown (headers (bulksOf two)) ≡ true)
+  kinds-are = known-parts (headers (bulksOf one)) (headers (bulksOf two)) (rw (← (map-append (λ (x : Bulk). x .header) (bulksOf one) (bulksOf two)), ← bulks-are) (clear .kinds))
+
+  order-is : (mixed false (headers (bulksOf one)) ≡ false) × (mixed false (headers (bulksOf two)) ≡ false)
+  order-is = order-parts false (headers (bulksOf one)) (headers (bulksOf two)) (rw (← (map-append (λ (x : Bulk). x .header) (bulksOf one) (bulksOf two)), ← bulks-are) (clear .order))
+
+  module _ (bytes : InBytes call) (space space' : List ℕ) (enough : Enough space one) (enough' : Enough space' two) where
+    abbrev before : State
+    before = record { register = call .register; positions = call .positions }
+
+    abbrev c1 : Call
+    c1 = firstCall call k space
+
+    abbrev o1 : Outcome
+    o1 = judgedOf c1 (judgement c1)
+
+    abbrev c2 : Call
+    c2 = secondCall call k o1 space'
+
+    abbrev o2 : Outcome
+    o2 = judgedOf c2 (judgement c2)
+
+    first-clear : Clear c1
+    first-clear =
+        let m = messages-are in
+        let n = first-holds .count in
+        let r = clear .room in
+        let fb = clear .fewBulks in
+        let fm = clear .fewMessages in
+        record {
+          date = clear .date;
+          table = clear .table;
+          places = clear .places;
+          formed = clear .formed;
+          whole = first-holds .whole;
+          fewBulks = omega arith;
+          fewMessages = omega arith;
+          kinds = kinds-are .0;
+          order = order-is .0;
+          room = omega arith;
+          limit = room-less (call .positions) (messageCount s * mostCents) (messageCount one * mostCents) (clear .limit) (omega arith);
+          space = enough;
+        }
+
+    -- the state that the first part leaves has room for the second
+    between : Fit (call .date) (call .table) (judgement c1 .after) (bulkCount two + messageCount two) (messageCount two)
+    between =
+        let m = messages-are in
+        let n = first-holds .count in
+        let n' = second-holds .count in
+        let ln = bulk-number c1 first-clear in
+        let lm = message-number c1 first-clear in
+        let r = clear .room in
+        bulks-fit (call .date) (call .table) (bulksOf one) before (bulkCount two + messageCount two) (messageCount two)
+        (record {
+          formed = clear .formed;
+          free = omega arith;
+          places = clear .places;
+          bytes = bytes .positions;
+          room = room-less (call .positions) (messageCount s * mostCents) ((messagesIn (bulksOf one) + messageCount two) * mostCents) (clear .limit) (omega arith);
+        })
+
+    second-clear : Clear c2
+    second-clear =
+        let m = messages-are in
+        let n = second-holds .count in
+        let fb = clear .fewBulks in
+        let fm = clear .fewMessages in
+        record {
+          date = clear .date;
+          table = clear .table;
+          places = between .places;
+          formed = between .formed;
+          whole = second-holds .whole;
+          fewBulks = omega arith;
+          fewMessages = omega arith;
+          kinds = kinds-are .1;
+          order = order-is .1;
+          room = between .free;
+          limit = between .room;
+          space = enough';
+        }
+
+    parts-make : PartsMakeTheWhole (judgedOf call (judgement call)) o1 o2
+    parts-make =
+        let joined = joins (call .date) (call .table) (bulksOf one) (bulksOf two) before in
+        record {
+          firstJudged = refl;
+          secondJudged = refl;
+          bulkLines =
+              bulk-lines-read call clear
+              ∙ ap (λ (bs : List Bulk). judgeBulks (call .date) (call .table) bs before .lines) bulks-are
+              ∙ joined .lines
+              ∙ ap₂ (λ (x y : List ℕ). x ++ y) (sym (bulk-lines-read c1 first-clear)) (sym (bulk-lines-read c2 second-clear));
+          messageLines =
+              message-lines-read call clear
+              ∙ ap (λ (bs : List Bulk). judgeBulks (call .date) (call .table) bs before .sections) bulks-are
+              ∙ joined .sections
+              ∙ ap₂ (λ (x y : List ℕ). x ++ y) (sym (message-lines-read c1 first-clear)) (sym (message-lines-read c2 second-clear));
+          register = sym (ap (λ (bs : List Bulk). judgeBulks (call .date) (call .table) bs before .after .register) bulks-are ∙ ap (λ (st : State). st .register) (joined .after));
+          positions = sym (ap (λ (bs : List Bulk). judgeBulks (call .date) (call .table) bs before .after .positions) bulks-are ∙ ap (λ (st : State). st .positions) (joined .after));
+        }
+
+    cut-made : PartsMakeTheWhole (outcome call) (outcome c1) (outcome (secondCall call k (outcome c1) space'))
+    cut-made =
+        rw (outcome-judged call (of-clear call clear), outcome-judged c1 (of-clear c1 first-clear), outcome-judged c2 (of-clear c2 second-clear)) parts-make
+
+-- Cut a file that is not refused after any of its bulks, or before the first: neither part is refused, their lines are those of the
+-- whole, and register and positions end equal.
+pub cut-anywhere : CutsAnywhere outcome
+cut-anywhere call bytes e k h space space' enough enough' =
+    cut-made call (clear-of call (sym (number-is call) ∙ e)) k h bytes space space' enough enough'

@@ -1,0 +1,107 @@
+-- What a caller reads in the report of a file that was judged: its lines are those of the judgement. Assumes nothing.
+use mathlib.Core.Path.{_≡_, refl, sym, ap, _∙_}
+use mathlib.Core.List.{List, [], _∷_, _++_}
+use Prim.Native.Nat.{ℕ, _+_, _-_, _*_, _%_, _^_, _≤_, _<_}
+use native.Mathlib.Nat.{add-zero, zero-add, mod-eq-of-lt}
+use native.Mathlib.Omega.{arith}
+use lib.ListN.{length, take, length-append}
+use lib.Seq.{sets, take-all, take-at, drop-at}
+use Rattle.wire.specs.Field.{part, numberOf, bytesOf}
+use Rattle.wire.proofs.Numbers.{bytes-length, written-read}
+use Rattle.wire.proofs.Stores.{part-stored}
+use Rattle.sheet.specs.Sheet.{bulkCount, messageCount, firstSection, bulksOf, bulksFrom, messagesIn}
+use Rattle.sheet.proofs.Laws.{whole-facts, bulks-length, bulks-messages}
+use Rattle.sheet.proofs.Fields.{part-part}
+use Rattle.report.specs.Line.{bulkLineWidth, messageLineWidth, reportLength}
+use Rattle.judging.specs.Judgement.{State, judgeBulks}
+use Rattle.judging.specs.Refusals.{Call}
+use Rattle.judging.specs.Outcome.{Outcome, judgement, reportOf, judgedOf}
+use Rattle.promises.specs.Reading.{lineCount, afterBulkLines, bulkLines, messageLines}
+use Rattle.promises.proofs.Bulks.{part-front, part-back, AllShaped, bulks-shaped}
+use Rattle.promises.proofs.Clear.{Clear}
+use Rattle.promises.proofs.Joined.{bulk-lines-wide, sections-wide}
+
+module _ (call : Call) (clear : Clear call) where
+  abbrev b : ℕ
+  b = bulkCount (call .sheet)
+
+  abbrev m : ℕ
+  m = messageCount (call .sheet)
+
+  abbrev left : Outcome
+  left = judgedOf call (judgement call)
+
+  pub shaped : AllShaped (bulksOf (call .sheet))
+  shaped =
+      let facts = whole-facts (call .sheet) (clear .whole) in
+      bulks-shaped (call .sheet) b 4 (firstSection (call .sheet)) (facts .headed) (let e = facts .ended in omega arith)
+
+  pub bulk-number : length (bulksOf (call .sheet)) ≡ b
+  bulk-number = bulks-length (call .sheet) b 4 (firstSection (call .sheet))
+
+  pub message-number : messagesIn (bulksOf (call .sheet)) ≡ m
+  message-number = bulks-messages (call .sheet) b 4 (firstSection (call .sheet))
+
+  lines-length : length (judgement call .lines) ≡ bulkLineWidth * b
+  lines-length =
+      bulk-lines-wide (call .date) (call .table) (bulksOf (call .sheet)) (record { register = call .register; positions = call .positions }) shaped
+      ∙ (rw bulk-number)
+
+  sections-length : length (judgement call .sections) ≡ 4 * b + messageLineWidth * m
+  sections-length =
+      sections-wide (call .date) (call .table) (bulksOf (call .sheet)) (record { register = call .register; positions = call .positions }) shaped
+      ∙ (rw (bulk-number, message-number))
+
+  abbrev front : List ℕ
+  front = bytesOf 4 b ++ judgement call .lines
+
+  front-length : length front ≡ 4 + bulkLineWidth * b
+  front-length = length-append (bytesOf 4 b) (judgement call .lines) ∙ (rw (bytes-length 4 b, lines-length))
+
+  report-length : length (reportOf b (judgement call)) ≡ reportLength b m
+  report-length = length-append front (judgement call .sections) ∙ (rw (front-length, sections-length) (omega arith))
+
+  -- what stands in the report is read there, as it would be in the text that was written
+  pub read-there : (o n : ℕ) → o + n ≤ reportLength b m → part (left .report) o n ≡ part (reportOf b (judgement call)) o n
+  read-there o n h =
+      let fits : 0 + reportLength b m ≤ length (call .report) = (let s = clear .space in omega arith) in
+      sym (
+      ap (λ (xs : List ℕ). part xs o n) (sym (part-stored (call .report) 0 (reportLength b m) (reportOf b (judgement call)) report-length fits))
+      ∙ part-part (left .report) 0 (reportLength b m) o n h
+      ∙ ap (λ (k : ℕ). part (left .report) k n) (zero-add o))
+
+  pub count-read : lineCount left ≡ b
+  count-read =
+      let wide = bytes-length 4 b in
+      let few = clear .fewBulks in
+      ap numberOf (
+      read-there 0 4 (omega arith)
+      ∙ part-front front (judgement call .sections) 0 4 (rw front-length (omega arith))
+      ∙ part-front (bytesOf 4 b) (judgement call .lines) 0 4 (omega arith)
+      ∙ take-all 4 (bytesOf 4 b) (omega arith))
+      ∙ written-read 4 b
+      ∙ mod-eq-of-lt (omega arith)
+
+  pub bulk-lines-read : bulkLines left ≡ judgement call .lines
+  bulk-lines-read =
+      let long = lines-length in
+      ap (λ (k : ℕ). part (left .report) 4 (bulkLineWidth * k)) count-read
+      ∙ read-there 4 (bulkLineWidth * b) (omega arith)
+      ∙ part-front front (judgement call .sections) 4 (bulkLineWidth * b) (rw front-length (omega arith))
+      ∙ part-back (bytesOf 4 b) (judgement call .lines) 4 0 (bulkLineWidth * b) (bytes-length 4 b)
+      ∙ take-all (bulkLineWidth * b) (judgement call .lines) (omega arith)
+
+  pub sections-read : (o n : ℕ) → o + n ≤ 4 * b + messageLineWidth * m → part (left .report) (afterBulkLines b + o) n ≡ part (judgement call .sections) o n
+  sections-read o n h =
+      read-there (afterBulkLines b + o) n (omega arith)
+      ∙ part-back front (judgement call .sections) (afterBulkLines b) o n front-length
+
+  pub message-lines-read : messageLines left ≡ judgement call .sections
+  message-lines-read =
+      let long = sections-length in
+      let rest : reportLength b m - afterBulkLines b ≡ 4 * b + messageLineWidth * m = omega arith in
+      ap (λ (k : ℕ). part (left .report) (afterBulkLines k) (reportLength b m - afterBulkLines k)) count-read
+      ∙ ap (λ (n : ℕ). part (left .report) (afterBulkLines b) n) rest
+      ∙ ap (λ (k : ℕ). part (left .report) k (4 * b + messageLineWidth * m)) (sym (add-zero (afterBulkLines b)))
+      ∙ sections-read 0 (4 * b + messageLineWidth * m) (omega arith)
+      ∙ take-all (4 * b + messageLineWidth * m) (judgement call .sections) (omega arith)

@@ -1,0 +1,78 @@
+-- A file cut after any of its bulks: the two parts as sheets, and what holds of them. Assumes nothing.
+use Prim.Native.Nat.{ℕ, _+_, _-_, _*_, _≤_}
+use mathlib.Core.Path.{_≡_}
+use mathlib.Core.List.{List, _++_}
+use lib.ListN.{length, drop}
+use Rattle.wire.specs.Field.{part, bytesOf}
+use Rattle.sheet.specs.Sheet.{headerWidth, bulkCount, messageCount, firstSection, endFrom}
+use Rattle.report.specs.Line.{reportLength}
+use Rattle.judging.specs.Refusals.{Call}
+use Rattle.judging.specs.Outcome.{Outcome}
+use Rattle.promises.specs.Reading.{Judge, InBytes, bulkLines, messageLines}
+
+-- ---- the parts
+
+-- where the sections of the first k bulks end
+abbrev pub cutPlace : List ℕ → ℕ → ℕ
+cutPlace sheet k = endFrom sheet k (firstSection sheet)
+
+-- the first k bulks: their number, their headers, their sections
+abbrev pub firstPart : List ℕ → ℕ → List ℕ
+firstPart sheet k =
+    bytesOf 4 k
+    ++ part sheet 4 (headerWidth * k)
+    ++ part sheet (firstSection sheet) (cutPlace sheet k - firstSection sheet)
+
+-- the others
+abbrev pub secondPart : List ℕ → ℕ → List ℕ
+secondPart sheet k =
+    bytesOf 4 (bulkCount sheet - k)
+    ++ part sheet (4 + headerWidth * k) (headerWidth * (bulkCount sheet - k))
+    ++ drop (cutPlace sheet k) sheet
+
+-- ---- judged one after the other, on the same date and table
+
+abbrev pub firstCall : Call → ℕ → List ℕ → Call
+firstCall call k space =
+    record {
+      date = call .date;
+      sheet = firstPart (call .sheet) k;
+      table = call .table;
+      register = call .register;
+      positions = call .positions;
+      report = space;
+    }
+
+-- the second is handed the register and the positions that the first left
+abbrev pub secondCall : Call → ℕ → Outcome → List ℕ → Call
+secondCall call k left space =
+    record {
+      date = call .date;
+      sheet = secondPart (call .sheet) k;
+      table = call .table;
+      register = left .register;
+      positions = left .positions;
+      report = space;
+    }
+
+-- the space is enough for a report on the sheet
+abbrev pub Enough : List ℕ → List ℕ → Type 0
+Enough space sheet = reportLength (bulkCount sheet) (messageCount sheet) ≤ length space
+
+-- ---- what holds
+
+pub record PartsMakeTheWhole (whole first second : Outcome) : Type 0 where
+  pub firstJudged : first .number ≡ 0
+  pub secondJudged : second .number ≡ 0
+  pub bulkLines : bulkLines whole ≡ bulkLines first ++ bulkLines second
+  pub messageLines : messageLines whole ≡ messageLines first ++ messageLines second
+  pub register : second .register ≡ whole .register
+  pub positions : second .positions ≡ whole .positions
+
+-- demand 3, the cut: of a judge, for every call that it does not refuse, every place, and space enough for each part
+abbrev pub CutsAnywhere : Judge → Type 0
+CutsAnywhere judge =
+    (call : Call) → InBytes call → judge call .number ≡ 0
+    → (k : ℕ) → k ≤ bulkCount (call .sheet)
+    → (space space' : List ℕ) → Enough space (firstPart (call .sheet) k) → Enough space' (secondPart (call .sheet) k)
+    → let first = judge (firstCall call k space) in PartsMakeTheWhole (judge call) first (judge (secondCall call k first space'))
