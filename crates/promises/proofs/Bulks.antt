@@ -83,8 +83,8 @@ module _ (s t : List ℕ) where
       let count = same-count ats att k bs inside in
       let fits : endFrom s n (afterSection s ats) ≤ afterSection s ats + (k - (4 + messageWidth * countAt s ats)) = omega arith in
       let rest =
-          bulks-agree n (heads + headerWidth) (headt + headerWidth) (afterSection s ats) (afterSection t att) (k - (4 + messageWidth * countAt s ats))
-          (same-later n heads headt hs) (same-after ats att k bs inside) fits
+      bulks-agree n (heads + headerWidth) (headt + headerWidth) (afterSection s ats) (afterSection t att) (k - (4 + messageWidth * countAt s ats))
+      (same-later n heads headt hs) (same-after ats att k bs inside) fits
       in
       record {
         bulks =
@@ -145,6 +145,7 @@ module _ (s : List ℕ) where
   unfolding bulksFrom endFrom AllShaped
   bulks-shaped zero head at headed h = tt
   bulks-shaped (suc n) head at headed h =
-      let inside : afterSection s at ≤ length s = omega (arith, end-forward s n (afterSection s at)) in
-      (record { header = part-length s head headerWidth (omega arith); messages = records-wide (countAt s at) (at + 4) inside },
-      bulks-shaped n (head + headerWidth) (afterSection s at) (omega arith) h)
+      let inside : afterSection s at ≤ length s = omega (arith, end-forward s n (afterSection s at)) in (
+        record { header = part-length s head headerWidth (omega arith); messages = records-wide (countAt s at) (at + 4) inside },
+        bulks-shaped n (head + headerWidth) (afterSection s at) (omega arith) h,
+      )

@@ -106,17 +106,38 @@ unfolding refusal holds NoneHold
 of-clear call c =
     hold-none refusals call (
       ap not (c .date),
-      (ap not (c .table),
-      (ap not (eq-eqb (length (call .positions)) (positionWidth * rows (call .table)) (c .places)),
-      (ap not (well-formed (call .register) (c .formed)),
-      (ap not (c .whole),
-      (rw (le-ltb mostBulks (bulkCount (call .sheet)) (c .fewBulks), le-ltb mostMessages (messageCount (call .sheet)) (c .fewMessages)),
-      (ap not (rw (headers-of (call .sheet)) at (c .kinds)),
-      (rw (headers-of (call .sheet)) at (c .order),
-      (le-ltb (free (call .register)) (bulkCount (call .sheet) + messageCount (call .sheet)) (c .room),
-      (ap not (c .limit),
-      (le-ltb (length (call .report)) (reportLength (bulkCount (call .sheet)) (messageCount (call .sheet))) (c .space),
-      tt)))))))))))
+      (
+        ap not (c .table),
+        (
+          ap not (eq-eqb (length (call .positions)) (positionWidth * rows (call .table)) (c .places)),
+          (
+            ap not (well-formed (call .register) (c .formed)),
+            (
+              ap not (c .whole),
+              (
+                rw (le-ltb mostBulks (bulkCount (call .sheet)) (c .fewBulks), le-ltb mostMessages (messageCount (call .sheet)) (c .fewMessages)),
+                (
+                  ap not (rw (headers-of (call .sheet)) at (c .kinds)),
+                  (
+                    rw (headers-of (call .sheet)) at (c .order),
+                    (
+                      le-ltb (free (call .register)) (bulkCount (call .sheet) + messageCount (call .sheet)) (c .room),
+                      (
+                        ap not (c .limit),
+                        (
+                          le-ltb (length (call .report)) (reportLength (bulkCount (call .sheet)) (messageCount (call .sheet))) (c .space),
+                          tt,
+                        ),
+                      ),
+                    ),
+                  ),
+                ),
+              ),
+            ),
+          ),
+        ),
+      ),
+    )
 
 -- ---- the outcome
 

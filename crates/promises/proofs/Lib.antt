@@ -4,4 +4,7 @@ pub mod Cutting
 pub mod Fit
 pub mod Joined
 pub mod Lines
+pub mod Running
+pub mod Said
 pub mod Taken
+pub mod Tracked

@@ -1,0 +1,168 @@
+-- Payments kept track of from one state to another: what they add to the register, what they move, and that none was there before.
+-- Assumes nothing.
+use mathlib.Core.Path.{_≡_, refl, sym, ap, ap₂, _∙_}
+use mathlib.Core.Bool.{Bool, true, false, cond, _||_, false≢true, or-assoc, or-true, or-false}
+use mathlib.Core.List.{List, [], _∷_, _++_, map, map-append, append-assoc, append-nil}
+use Prim.Native.Nat.{ℕ, zero, suc, _+_}
+use native.Mathlib.Nat.{zero-add, add-assoc, add-zero}
+use native.Mathlib.Omega.{arith}
+use lib.Dec.{eqb}
+use lib.IntN.{ℤ, pos, negℤ, _+ℤ_, _-ℤ_, +ℤ-assoc, +ℤ-comm, +ℤ-idr, pos-+ℤ-pos, negℤ-+ℤ}
+use Rattle.wire.specs.Field.{same, numberAt}
+use Rattle.wire.proofs.Texts.{same-itself, same-equal}
+use Rattle.register.specs.Register.{entry, messageTag, tagPlace, entriesOf, listed, stands}
+use Rattle.register.proofs.Laws.{stands-listed}
+use Rattle.positions.specs.Positions.{positionAt, signed}
+use Rattle.judging.specs.Judgement.{State}
+use Rattle.promises.specs.Reading.{Payment}
+use Rattle.promises.specs.Runs.{SamePayment, NoneLike, NoneTwice, entryOf, withMessageTag, messageEntries, AllStand, isRow, toRow, fromRow, centsTo, centsFrom}
+
+-- ---- cents add up
+
+module _ (date : ℕ) (table : List ℕ) (j : ℕ) where
+  to-append : (ps qs : List Payment) → centsTo date table j (ps ++ qs) ≡ centsTo date table j ps + centsTo date table j qs
+  unfolding centsTo
+  to-append [] qs = sym (zero-add (centsTo date table j qs))
+  to-append (p ∷ ps) qs =
+      ap (λ (n : ℕ). cond (toRow date table j p) (p .cents) 0 + n) (to-append ps qs)
+      ∙ sym (add-assoc (cond (toRow date table j p) (p .cents) 0) (centsTo date table j ps) (centsTo date table j qs))
+
+  from-append : (ps qs : List Payment) → centsFrom date table j (ps ++ qs) ≡ centsFrom date table j ps + centsFrom date table j qs
+  unfolding centsFrom
+  from-append [] qs = sym (zero-add (centsFrom date table j qs))
+  from-append (p ∷ ps) qs =
+      ap (λ (n : ℕ). cond (fromRow date table j p) (p .cents) 0 + n) (from-append ps qs)
+      ∙ sym (add-assoc (cond (fromRow date table j p) (p .cents) 0) (centsFrom date table j ps) (centsFrom date table j qs))
+
+-- two moves one after the other, as one
+moved-twice : (x : ℤ) (a b c d : ℕ) → x +ℤ pos a -ℤ pos b +ℤ pos c -ℤ pos d ≡ x +ℤ pos (a + c) -ℤ pos (b + d)
+moved-twice x a b c d =
+    let from = negℤ (pos b) in
+    let from' = negℤ (pos d) in
+    let less : from +ℤ from' ≡ negℤ (pos (b + d)) = sym (negℤ-+ℤ (pos b) (pos d)) ∙ ap negℤ (pos-+ℤ-pos b d) in
+    ap (λ (k : ℤ). k +ℤ from') (
+    +ℤ-assoc (x +ℤ pos a) from (pos c)
+    ∙ ap (λ (k : ℤ). x +ℤ pos a +ℤ k) (+ℤ-comm from (pos c))
+    ∙ sym (+ℤ-assoc (x +ℤ pos a) (pos c) from))
+    ∙ +ℤ-assoc (x +ℤ pos a +ℤ pos c) from from'
+    ∙ ap₂ (λ (k l : ℤ). k +ℤ l) (+ℤ-assoc x (pos a) (pos c) ∙ ap (λ (k : ℤ). x +ℤ k) (pos-+ℤ-pos a c)) less
+
+-- ---- lists of entries
+
+pub tag-append : (xs ys : List (List ℕ)) → withMessageTag (xs ++ ys) ≡ withMessageTag xs ++ withMessageTag ys
+unfolding withMessageTag
+tag-append [] ys = refl
+tag-append (x ∷ xs) ys = by-test (eqb (numberAt x tagPlace 1) messageTag) (tag-append xs ys)
+  where
+    by-test : (t : Bool) → withMessageTag (xs ++ ys) ≡ withMessageTag xs ++ withMessageTag ys
+        → cond t (x ∷ withMessageTag (xs ++ ys)) (withMessageTag (xs ++ ys)) ≡ cond t (x ∷ withMessageTag xs) (withMessageTag xs) ++ withMessageTag ys
+    by-test true e = ap (λ (l : List (List ℕ)). x ∷ l) e
+    by-test false e = e
+
+listed-append : (xs ys : List (List ℕ)) (e : List ℕ) → listed (xs ++ ys) e ≡ (listed xs e || listed ys e)
+unfolding listed
+listed-append [] ys e = refl
+listed-append (x ∷ xs) ys e = rw (listed-append xs ys e) (sym (or-assoc (same x e) (listed xs e) (listed ys e)))
+
+-- what is listed among those with the tag is listed among them all
+tag-listed : (xs : List (List ℕ)) (e : List ℕ) → listed (withMessageTag xs) e ≡ true → listed xs e ≡ true
+unfolding withMessageTag listed
+tag-listed [] e h = h
+tag-listed (x ∷ xs) e h = by-test (eqb (numberAt x tagPlace 1) messageTag) (tag-listed xs e) h
+  where
+    here : (t : Bool) → (listed (withMessageTag xs) e ≡ true → listed xs e ≡ true) → (t || listed (withMessageTag xs) e) ≡ true → (t || listed xs e) ≡ true
+    here true later h = refl
+    here false later h = later h
+
+    by-test : (t : Bool) → (listed (withMessageTag xs) e ≡ true → listed xs e ≡ true) → listed (cond t (x ∷ withMessageTag xs) (withMessageTag xs)) e ≡ true → (same x e || listed xs e) ≡ true
+    by-test true later h = here (same x e) later h
+    by-test false later h = rw (later h) (or-true (same x e))
+
+pub not-listed : (xs : List (List ℕ)) (e : List ℕ) → listed xs e ≡ false → listed (withMessageTag xs) e ≡ false
+not-listed xs e h = by-test (listed (withMessageTag xs) e) refl
+  where
+    by-test : (t : Bool) → listed (withMessageTag xs) e ≡ t → listed (withMessageTag xs) e ≡ false
+    by-test true told = absurd (false≢true (sym h ∙ tag-listed xs e told))
+    by-test false told = told
+
+-- ---- none was there before
+
+-- each of them is none of the entries es, nor of those of the payments before it
+unfoldable pub Fresh : List (List ℕ) → List Payment → Type 0
+Fresh es [] = Unit {0}
+Fresh es (p ∷ ps) = (listed es (entryOf p) ≡ false) × Fresh (es ++ (entryOf p ∷ [])) ps
+
+fresh-append : (es : List (List ℕ)) (ps qs : List Payment) → Fresh es ps → Fresh (es ++ map entryOf ps) qs → Fresh es (ps ++ qs)
+unfolding Fresh
+fresh-append es [] qs f g = rw (append-nil es) at g
+fresh-append es (p ∷ ps) qs f g =
+    (f .0, fresh-append (es ++ (entryOf p ∷ [])) ps qs (f .1) (rw (append-assoc es (entryOf p ∷ []) (map entryOf ps)) g))
+
+or-false-parts : (a b : Bool) → (a || b) ≡ false → (a ≡ false) × (b ≡ false)
+or-false-parts true b e = absurd (false≢true (sym e))
+or-false-parts false b e = (refl, e)
+
+-- so none of them is like another
+none-like : (es : List (List ℕ)) (p : Payment) (ps : List Payment) → listed es (entryOf p) ≡ true → Fresh es ps → NoneLike p ps
+unfolding Fresh NoneLike
+none-like es p [] there f = tt
+none-like es p (q ∷ qs) there f = (
+  (λ (alike : SamePayment p q).
+      let equal : entryOf p ≡ entryOf q = ap₂ (λ (x y : List ℕ). entry x y messageTag) (alike .0) (alike .1) in
+      false≢true (sym (f .0) ∙ (rw (← equal) there))),
+  none-like (es ++ (entryOf q ∷ [])) p qs (rw (listed-append es (entryOf q ∷ []) (entryOf p), there)) (f .1),
+)
+
+pub none-twice : (es : List (List ℕ)) (ps : List Payment) → Fresh es ps → NoneTwice ps
+unfolding Fresh NoneTwice listed
+none-twice es [] f = tt
+none-twice es (p ∷ ps) f = (
+  none-like (es ++ (entryOf p ∷ [])) p ps (rw (listed-append es (entryOf p ∷ []) (entryOf p), same-itself (entryOf p)) (or-true (listed es (entryOf p)))) (f .1),
+  none-twice (es ++ (entryOf p ∷ [])) ps (f .1),
+)
+
+-- each stands in a register that lists them all
+pub all-stand-from : (register : List ℕ) (es : List (List ℕ)) (ps : List Payment) → messageEntries register ≡ es ++ map entryOf ps → AllStand register ps
+unfolding AllStand listed
+all-stand-from register es [] e = tt
+all-stand-from register es (p ∷ ps) e = (
+  stands-listed register (entryOf p)
+      ∙ tag-listed (entriesOf register) (entryOf p)
+      (rw (e, listed-append es (entryOf p ∷ map entryOf ps) (entryOf p), same-itself (entryOf p)) (or-true (listed es (entryOf p)))),
+  all-stand-from register (es ++ (entryOf p ∷ [])) ps (e ∙ sym (append-assoc es (entryOf p ∷ []) (map entryOf ps))),
+)
+
+-- ---- from one state to another
+
+module _ (date : ℕ) (table : List ℕ) where
+  pub record Tracked (before after : State) (ps : List Payment) : Type 0 where
+    pub fresh : Fresh (messageEntries (before .register)) ps
+    pub recorded : messageEntries (after .register) ≡ messageEntries (before .register) ++ map entryOf ps
+    pub positions : (j : ℕ)
+        → signed (positionAt (after .positions) j)
+        ≡ signed (positionAt (before .positions) j) +ℤ pos (centsTo date table j ps) -ℤ pos (centsFrom date table j ps)
+
+  pub tracked-none : (st : State) → Tracked st st []
+  unfolding Fresh centsTo centsFrom
+  tracked-none st =
+      record {
+        fresh = tt;
+        recorded = sym (append-nil (messageEntries (st .register)));
+        positions = λ j. sym (+ℤ-idr (signed (positionAt (st .positions) j) +ℤ pos 0) ∙ +ℤ-idr (signed (positionAt (st .positions) j)));
+      }
+
+  pub tracked-then : (a b c : State) (ps qs : List Payment) → Tracked a b ps → Tracked b c qs → Tracked a c (ps ++ qs)
+  tracked-then a b c ps qs f g =
+      record {
+        fresh = fresh-append (messageEntries (a .register)) ps qs (f .fresh) (rw (f .recorded) at (g .fresh));
+        recorded =
+            g .recorded
+            ∙ ap (λ (es : List (List ℕ)). es ++ map entryOf qs) (f .recorded)
+            ∙ append-assoc (messageEntries (a .register)) (map entryOf ps) (map entryOf qs)
+            ∙ ap (λ (es : List (List ℕ)). messageEntries (a .register) ++ es) (sym (map-append entryOf ps qs));
+        positions = λ j.
+            g .positions j
+            ∙ ap (λ (k : ℤ). k +ℤ pos (centsTo date table j qs) -ℤ pos (centsFrom date table j qs)) (f .positions j)
+            ∙ moved-twice (signed (positionAt (a .positions) j)) (centsTo date table j ps) (centsFrom date table j ps) (centsTo date table j qs) (centsFrom date table j qs)
+            ∙ ap₂ (λ (t u : ℕ). signed (positionAt (a .positions) j) +ℤ pos t -ℤ pos u) (sym (to-append date table j ps qs)) (sym (from-append date table j ps qs));
+      }
