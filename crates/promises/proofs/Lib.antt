@@ -1,3 +1,4 @@
+pub mod AtTheEdges
 pub mod Bulks
 pub mod Clear
 pub mod Cutting

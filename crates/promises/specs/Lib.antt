@@ -2,3 +2,4 @@ pub mod Determined
 pub mod Reading
 pub mod Cut
 pub mod Runs
+pub mod Edges
