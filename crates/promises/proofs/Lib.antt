@@ -2,10 +2,12 @@ pub mod AtTheEdges
 pub mod Bulks
 pub mod Clear
 pub mod Cutting
+pub mod Fields
 pub mod Fit
 pub mod Joined
 pub mod Lines
 pub mod Running
 pub mod Said
 pub mod Taken
+pub mod Telling
 pub mod Tracked

@@ -82,17 +82,23 @@ module _ (call : Call) (clear : Clear call) where
       ∙ written-read 4 b
       ∙ mod-eq-of-lt (omega arith)
 
+  pub lines-read : (o n : ℕ) → o + n ≤ length (judgement call .lines) → part (left .report) (4 + o) n ≡ part (judgement call .lines) o n
+  lines-read o n h =
+      let long = lines-length in
+      read-there (4 + o) n (omega arith)
+      ∙ part-front front (judgement call .sections) (4 + o) n (rw front-length (omega arith))
+      ∙ part-back (bytesOf 4 b) (judgement call .lines) 4 o n (bytes-length 4 b)
+
   pub bulk-lines-read : bulkLines left ≡ judgement call .lines
   bulk-lines-read =
       let long = lines-length in
       ap (λ (k : ℕ). part (left .report) 4 (bulkLineWidth * k)) count-read
-      ∙ read-there 4 (bulkLineWidth * b) (omega arith)
-      ∙ part-front front (judgement call .sections) 4 (bulkLineWidth * b) (rw front-length (omega arith))
-      ∙ part-back (bytesOf 4 b) (judgement call .lines) 4 0 (bulkLineWidth * b) (bytes-length 4 b)
+      ∙ lines-read 0 (bulkLineWidth * b) (omega arith)
       ∙ take-all (bulkLineWidth * b) (judgement call .lines) (omega arith)
 
-  pub sections-read : (o n : ℕ) → o + n ≤ 4 * b + messageLineWidth * m → part (left .report) (afterBulkLines b + o) n ≡ part (judgement call .sections) o n
+  pub sections-read : (o n : ℕ) → o + n ≤ length (judgement call .sections) → part (left .report) (afterBulkLines b + o) n ≡ part (judgement call .sections) o n
   sections-read o n h =
+      let long = sections-length in
       read-there (afterBulkLines b + o) n (omega arith)
       ∙ part-back front (judgement call .sections) (afterBulkLines b) o n front-length
 

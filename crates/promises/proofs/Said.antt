@@ -27,10 +27,10 @@ use Rattle.promises.proofs.Lines.{shaped, bulk-number, message-number, 
 abbrev pub Stands : List ℕ → ℕ → List ℕ → Type 0
 Stands report at text = (o n : ℕ) → o + n ≤ length text → part report (at + o) n ≡ part text o n
 
-stands-front : (report : List ℕ) (at : ℕ) (xs ys : List ℕ) → Stands report at (xs ++ ys) → Stands report at xs
+pub stands-front : (report : List ℕ) (at : ℕ) (xs ys : List ℕ) → Stands report at (xs ++ ys) → Stands report at xs
 stands-front report at xs ys h o n fits = h o n (rw (length-append xs ys) (omega arith)) ∙ part-front xs ys o n fits
 
-stands-back : (report : List ℕ) (at k : ℕ) (xs ys : List ℕ) → length xs ≡ k → Stands report at (xs ++ ys) → Stands report (at + k) ys
+pub stands-back : (report : List ℕ) (at k : ℕ) (xs ys : List ℕ) → length xs ≡ k → Stands report at (xs ++ ys) → Stands report (at + k) ys
 stands-back report at k xs ys e h o n fits =
     ap (λ (a : ℕ). part report a n) (add-assoc at k o)
     ∙ h (k + o) n (rw (length-append xs ys) (omega arith))
@@ -78,7 +78,7 @@ module _ (date : ℕ) (table : List ℕ) where
   paidBy [] before = []
   paidBy (b ∷ bs) before = paid (b .header) (falls date table b before) (b .messages) before ++ paidBy bs (afterBulk date table b before)
 
-  said-messages : (report : List ℕ) (at : ℕ) (header : List ℕ) (fallen : Bool) (ms : List (List ℕ)) (before : State) → AllWide ms
+  pub said-messages : (report : List ℕ) (at : ℕ) (header : List ℕ) (fallen : Bool) (ms : List (List ℕ)) (before : State) → AllWide ms
       → Stands report at (judgeMessages date table header fallen ms before .lines) → acceptedOf report header ms at ≡ paid header fallen ms before
   unfolding acceptedOf paid judgeMessages AllWide
   said-messages report at header fallen [] before wide there = refl
@@ -125,7 +125,7 @@ said-judged call e =
     in
     rw (outcome-judged call e)
     (said-bulks (call .date) (call .table) (judgedOf call (judgement call) .report) (afterBulkLines (bulkCount (call .sheet))) (bulksOf (call .sheet)) before (shaped call clear)
-    (λ o n h. sections-read call clear o n (rw long at h)))
+    (sections-read call clear))
 
 pub said-refused : (call : Call) → (refusal call ≡ 0 → ⊥) → accepted (call .sheet) (outcome call) ≡ []
 unfolding accepted
