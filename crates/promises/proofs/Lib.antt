@@ -8,6 +8,7 @@ pub mod Joined
 pub mod Lines
 pub mod Running
 pub mod Said
+pub mod ShutOut
 pub mod Taken
 pub mod Telling
 pub mod Tracked

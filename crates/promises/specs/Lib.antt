@@ -4,3 +4,4 @@ pub mod Cut
 pub mod Demands
 pub mod Runs
 pub mod Edges
+pub mod Wrong

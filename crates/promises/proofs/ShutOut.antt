@@ -1,0 +1,148 @@
+-- Each wrong judge is shut out by a statement: were the statement true of it, 0 would be 1. Assumes nothing.
+use mathlib.Core.Path.{_≡_, refl, sym, ap, _∙_}
+use mathlib.Core.Bool.{Bool, true, false, _&&_, false≢true}
+use mathlib.Core.List.{List, [], _∷_, _++_}
+use Prim.Native.Nat.{ℕ, zero, suc, _-_, _/_}
+use Prim.Native.String.{String}
+use native.Mathlib.Omega.{arith}
+use lib.Dec.{lit<, lit≤, ltb}
+use lib.IntN.{ℤ, natAbs}
+use lib.ListN.{length, getD, replicate}
+use borrow.Author.Tests.{ltb-true}
+use Rattle.wire.specs.Field.{Bytes, text, bytesOf, numberFrom, same}
+use Rattle.wire.specs.Places.{firstFrom, everyFrom}
+use Rattle.calendar.specs.Date.{isDate, daysIn, leap}
+use Rattle.routing.specs.Table.{wellFormed, kindsKnown}
+use Rattle.routing.specs.Lookup.{rowOf, route}
+use Rattle.register.specs.Register.{entry, bulkTag, entriesTo, search, stands, add, wellFormed as registerFormed}
+use Rattle.positions.specs.Positions.{roomForAll, gains, loses}
+use Rattle.sheet.specs.Sheet.{recordsAt, bulksFrom, endFrom, messagesFrom, whole, shape, mixed, kindsKnown as sheetKinds}
+use Rattle.wording.specs.Wording.{among, allowed, kept, formed, badlyFormed, bicFormed, blank, oneOf}
+use Rattle.rules.specs.Facts.{mask, bulkFaults, messageFaults}
+use Rattle.report.specs.Line.{bulkLine, messageLine}
+use Rattle.judging.specs.Judgement.{State, sumOf, afterMessage, lineOf, counted, judgeMessages, bulkLineOf, sectionOf, afterBulk, judgeBulks}
+use Rattle.judging.specs.Refusals.{Call, holds, firstHolding, refusal}
+use Rattle.judging.specs.Outcome.{Outcome, outcome}
+use Rattle.promises.specs.Reading.{InBytes, acceptedOf, acceptedFrom, accepted}
+use Rattle.promises.specs.Cut.{CutsAnywhere}
+use Rattle.promises.specs.Demands.{RefusesAsWritten, EveryLineTells, BulksTell, MessagesTell, centsOf}
+use Rattle.promises.specs.Runs.{File, run, NoneLike, NoneTwice, withMessageTag, AllStand, centsTo, centsFrom, RunsAsPromised}
+use Rattle.promises.specs.Edges.{padded, row}
+use Rattle.promises.specs.Wrong.{refusesAll, writesOnRefusal, oneFixedReport, writesNothing, copiesTheFirstLine, makesUpTheNumber, hidesBesideARepeat, dropsALine, copiesTheFirstFile, recordsTheFallen, recordsNothing, movesTheStatedSum, ShutOut}
+
+-- ---- bytes, by a test
+
+unfoldable allBytes : List ℕ → Bool
+allBytes [] = true
+allBytes (x ∷ xs) = ltb x 256 && allBytes xs
+
+both-true : (a b : Bool) → (a && b) ≡ true → (a ≡ true) × (b ≡ true)
+both-true true b e = (refl, e)
+both-true false b e = absurd (false≢true e)
+
+bytes-by : (s : List ℕ) → allBytes s ≡ true → Bytes s
+unfolding allBytes
+bytes-by [] e i = lit< tt
+bytes-by (x ∷ xs) e zero = ltb-true x 256 (both-true (ltb x 256) (allBytes xs) e .0)
+bytes-by (x ∷ xs) e (suc i) = bytes-by xs (both-true (ltb x 256) (allBytes xs) e .1) i
+
+-- ---- the cases: payments from AAAALV22 to BBBBLV22
+
+abbrev header : String → ℕ → ℕ → List ℕ
+header identifier number sum =
+    bytesOf 1 1 ++ padded 35 identifier ++ text "AAAALV22" ++ bytesOf 8 number ++ bytesOf 8 sum ++ bytesOf 4 20260615 ++ bytesOf 1 3
+
+abbrev message : String → ℕ → List ℕ
+message identifier amount = padded 35 identifier ++ text "BBBBLV22XXX" ++ bytesOf 8 amount ++ bytesOf 8 0 ++ padded 19 ""
+
+-- one bulk of one message
+abbrev one : List ℕ
+one = bytesOf 4 1 ++ header "D1" 1 1 ++ bytesOf 4 1 ++ message "T1" 1
+
+-- the same with a wrong sum
+abbrev fallen : List ℕ
+fallen = bytesOf 4 1 ++ header "D1" 1 2 ++ bytesOf 4 1 ++ message "T1" 1
+
+-- one bulk whose second message repeats the first
+abbrev partial : List ℕ
+partial = bytesOf 4 1 ++ header "D1" 2 2 ++ bytesOf 4 2 ++ message "T1" 1 ++ message "T1" 1
+
+-- two bulks, the second of which falls
+abbrev two : List ℕ
+two = bytesOf 4 2 ++ header "D1" 1 1 ++ header "D2" 1 2 ++ bytesOf 4 1 ++ message "T1" 1 ++ bytesOf 4 1 ++ message "T2" 1
+
+abbrev table : List ℕ
+table = bytesOf 4 2 ++ row "AAAALV22XXX" ++ row "BBBBLV22XXX"
+
+abbrev empty : List ℕ
+empty = bytesOf 4 0 ++ replicate 176 0
+
+abbrev start : State
+start = record { register = empty; positions = replicate 16 0 }
+
+abbrev callOn : List ℕ → Call
+callOn sheet =
+    record { date = 20260615; sheet = sheet; table = table; register = empty; positions = replicate 16 0; report = replicate 300 0 }
+
+-- the bulk D1 stands in the register
+abbrev repeated : Call
+repeated =
+    record {
+      date = 20260615;
+      sheet = fallen;
+      table = table;
+      register = bytesOf 4 1 ++ entry (text "AAAALV22") (padded 35 "D1") bulkTag ++ replicate 176 0;
+      positions = replicate 16 0;
+      report = replicate 300 0;
+    }
+
+abbrev file : List ℕ → File
+file sheet = record { sheet = sheet; space = replicate 300 0 }
+
+no-cents : Bytes (replicate 16 0)
+unfolding allBytes
+no-cents = bytes-by (replicate 16 0) refl
+
+in-bytes : (sheet : List ℕ) → allBytes sheet ≡ true → InBytes (callOn sheet)
+unfolding allBytes bytesOf
+in-bytes sheet e =
+    record {
+      sheet = bytes-by sheet e;
+      table = bytes-by table refl;
+      register = bytes-by empty refl;
+      positions = no-cents;
+      report = bytes-by (replicate 300 0) refl;
+    }
+
+repeated-in-bytes : InBytes repeated
+unfolding allBytes bytesOf
+repeated-in-bytes =
+    record {
+      sheet = bytes-by (repeated .sheet) refl;
+      table = bytes-by table refl;
+      register = bytes-by (repeated .register) refl;
+      positions = no-cents;
+      report = bytes-by (replicate 300 0) refl;
+    }
+
+zero-is-one : _≡_ {A = ℕ} 0 1 → ⊥
+zero-is-one e = omega arith
+
+pub shut-out : ShutOut
+unfolding allBytes bytesOf numberFrom same firstFrom everyFrom isDate daysIn leap wellFormed kindsKnown rowOf route entriesTo search stands add registerFormed roomForAll gains loses recordsAt bulksFrom endFrom messagesFrom whole shape mixed sheetKinds among allowed kept formed badlyFormed bicFormed blank oneOf mask bulkFaults messageFaults bulkLine messageLine sumOf afterMessage lineOf counted judgeMessages bulkLineOf sectionOf afterBulk judgeBulks holds firstHolding refusal outcome acceptedOf acceptedFrom accepted BulksTell MessagesTell centsOf run NoneLike NoneTwice withMessageTag AllStand centsTo centsFrom
+shut-out =
+    record {
+      refusesAll = λ s. zero-is-one (sym (s (callOn one) .number));
+      writesOnRefusal = λ s. zero-is-one (ap (λ (r : List ℕ). 1 - getD r 0 0) (s (callOn []) .untouched (λ e. omega arith) .report));
+      oneFixedReport = λ s. zero-is-one (s (callOn one) (in-bytes one refl) refl .count);
+      writesNothing = λ s. zero-is-one (s (callOn one) (in-bytes one refl) refl .count);
+      copiesTheFirstLine = λ s. zero-is-one (sym (s (callOn two) (in-bytes two refl) refl .bulks .1 .0 .acceptedNumber));
+      makesUpTheNumber = λ s. zero-is-one (ap (λ (n : ℕ). 2 - n) (s (callOn partial) (in-bytes partial refl) refl .bulks .0 .acceptedNumber));
+      hidesBesideARepeat = λ s. zero-is-one (s repeated repeated-in-bytes refl .bulks .0 .faults 7);
+      dropsALine = λ s.
+          zero-is-one (ap (λ (l : List ℕ). (length l - 64) / 64) (s (callOn two) (in-bytes two refl) refl 1 (lit≤ tt) (replicate 300 0) (replicate 300 0) (lit≤ tt) (lit≤ tt) .bulkLines));
+      copiesTheFirstFile = (outcome (callOn one) .report, λ s. s 20260615 table start (file one ∷ file one ∷ []) refl no-cents .once .0 .0 (refl, refl));
+      recordsTheFallen = λ s. zero-is-one (sym (ap length (s 20260615 table start (file fallen ∷ []) refl no-cents .recorded)));
+      recordsNothing = λ s. zero-is-one (ap length (s 20260615 table start (file one ∷ []) refl no-cents .recorded));
+      movesTheStatedSum = λ s. zero-is-one (ap (λ (k : ℤ). 2 - natAbs k) (s 20260615 table start (file partial ∷ []) refl no-cents .positions 1));
+    }

@@ -1,0 +1,122 @@
+-- Judges that must be shut out, each the right one but for what its name says. Assumes nothing.
+use Prim.Native.Nat.{ℕ, _+_, _-_, _*_}
+use mathlib.Core.Bool.{Bool, cond, _&&_}
+use mathlib.Core.List.{List, [], _∷_, _++_}
+use lib.ListN.{length, getD}
+use lib.Seq.{sets}
+use lib.Dec.{eqb, ltb}
+use Rattle.wire.specs.Field.{part, numberAt, bytesOf}
+use Rattle.routing.specs.Lookup.{route}
+use Rattle.sheet.specs.Sheet.{Bulk, bulksOf, bulkCount, senderOf, identifierOf, receiverOf, statedSumOf}
+use Rattle.register.specs.Register.{entry, messageTag, used, add}
+use Rattle.rules.specs.Facts.{senderRow}
+use Rattle.report.specs.Line.{bulkLineWidth, messageLineWidth}
+use Rattle.judging.specs.Judgement.{moved}
+use Rattle.judging.specs.Refusals.{Call}
+use Rattle.judging.specs.Outcome.{Outcome, turnedAway, outcome}
+use Rattle.promises.specs.Reading.{Judge, afterBulkLines}
+use Rattle.promises.specs.Cut.{CutsAnywhere}
+use Rattle.promises.specs.Demands.{RefusesAsWritten, EveryLineTells}
+use Rattle.promises.specs.Runs.{RunsAsPromised}
+
+-- ---- one part of an outcome put in place of another
+
+abbrev pub withReport : Outcome → List ℕ → Outcome
+withReport left text =
+    record { number = left .number; length = left .length; register = left .register; positions = left .positions; report = text }
+
+abbrev pub withRegister : Outcome → List ℕ → Outcome
+withRegister left text =
+    record { number = left .number; length = left .length; register = text; positions = left .positions; report = left .report }
+
+abbrev pub withPositions : Outcome → List ℕ → Outcome
+withPositions left text =
+    record { number = left .number; length = left .length; register = left .register; positions = text; report = left .report }
+
+-- the first bulk, and its first message
+abbrev pub firstBulk : Call → Bulk
+firstBulk call = getD (bulksOf (call .sheet)) 0 (record { header = []; messages = [] })
+
+abbrev pub firstMessage : Call → List ℕ
+firstMessage call = getD (firstBulk call .messages) 0 []
+
+-- ---- of the first demand
+
+abbrev pub refusesAll : Judge
+refusesAll call = turnedAway 1 call
+
+-- a refusal that sets the report's first byte
+abbrev pub writesOnRefusal : Judge
+writesOnRefusal call = cond (eqb (outcome call .number) 0) (outcome call) (withReport (outcome call) (sets (call .report) 0 (1 ∷ [])))
+
+-- ---- of the second
+
+-- the report on a sheet of no bulks, whatever the sheet
+abbrev pub oneFixedReport : Judge
+oneFixedReport call =
+    record { number = outcome call .number; length = 4; register = call .register; positions = call .positions; report = sets (call .report) 0 (bytesOf 4 0) }
+
+abbrev pub writesNothing : Judge
+writesNothing call = withReport (outcome call) (call .report)
+
+-- the second bulk's line is the first one's
+abbrev pub copiesTheFirstLine : Judge
+copiesTheFirstLine call = withReport (outcome call) (sets (outcome call .report) (4 + bulkLineWidth) (part (outcome call .report) 4 bulkLineWidth))
+
+-- the first bulk's line says that all its messages were accepted
+abbrev pub makesUpTheNumber : Judge
+makesUpTheNumber call = withReport (outcome call) (sets (outcome call .report) 42 (bytesOf 4 (length (firstBulk call .messages))))
+
+-- where the first bulk is a repeat, nothing else is shown
+abbrev pub hidesBesideARepeat : Judge
+hidesBesideARepeat call = withReport (outcome call) (cond (ltb 15 (numberAt (outcome call .report) 40 2)) (sets (outcome call .report) 40 (bytesOf 2 16)) (outcome call .report))
+
+-- ---- of the third
+
+-- the second bulk's line and section are left out
+abbrev pub dropsALine : Judge
+dropsALine call =
+    cond (eqb (bulkCount (call .sheet)) 2)
+    (withReport (outcome call) (sets (call .report) 0 (bytesOf 4 1 ++ part (outcome call .report) 4 bulkLineWidth)))
+    (outcome call)
+
+-- once an identifier is in use, every report is the one that was first written
+abbrev pub copiesTheFirstFile : List ℕ → Judge
+copiesTheFirstFile first call =
+    cond (eqb (used (call .register)) 0)
+    (outcome call)
+    (record { number = 0; length = length first; register = call .register; positions = call .positions; report = sets (call .report) 0 first })
+
+-- the first message is recorded though it fell
+abbrev pub recordsTheFallen : Judge
+recordsTheFallen call =
+    cond (eqb (numberAt (outcome call .report) (afterBulkLines (bulkCount (call .sheet)) + 4 + 35) 1) 2)
+    (withRegister (outcome call) (add (outcome call .register) (entry (senderOf (firstBulk call .header)) (identifierOf (firstMessage call)) messageTag)))
+    (outcome call)
+
+abbrev pub recordsNothing : Judge
+recordsNothing call = withRegister (outcome call) (call .register)
+
+-- what moves is the sum that the first bulk states, and not what was accepted
+abbrev pub movesTheStatedSum : Judge
+movesTheStatedSum call =
+    withPositions (outcome call)
+    (moved (call .positions) (senderRow (call .date) (call .table) (firstBulk call .header)) (route (call .date) (call .table) (receiverOf (firstMessage call)))
+    (statedSumOf (firstBulk call .header)))
+
+-- ---- which statement refuses which
+
+pub record ShutOut : Type 0 where
+  pub refusesAll : RefusesAsWritten refusesAll → ⊥
+  pub writesOnRefusal : RefusesAsWritten writesOnRefusal → ⊥
+  pub oneFixedReport : EveryLineTells oneFixedReport → ⊥
+  pub writesNothing : EveryLineTells writesNothing → ⊥
+  pub copiesTheFirstLine : EveryLineTells copiesTheFirstLine → ⊥
+  pub makesUpTheNumber : EveryLineTells makesUpTheNumber → ⊥
+  pub hidesBesideARepeat : EveryLineTells hidesBesideARepeat → ⊥
+  pub dropsALine : CutsAnywhere dropsALine → ⊥
+  -- the report that the judge wrote on some file, handed out again
+  pub copiesTheFirstFile : (first : List ℕ) × (RunsAsPromised (copiesTheFirstFile first) → ⊥)
+  pub recordsTheFallen : RunsAsPromised recordsTheFallen → ⊥
+  pub recordsNothing : RunsAsPromised recordsNothing → ⊥
+  pub movesTheStatedSum : RunsAsPromised movesTheStatedSum → ⊥
