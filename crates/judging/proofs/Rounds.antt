@@ -90,11 +90,13 @@ module _ (date : ℕ) (table sheet : List ℕ) (bulks : ℕ) (before : State) (r
           let t = left .toHere in
           record { before = omega arith; space = rw (w, en) (omega arith) }
 
-      pub next-line-fits : line + bulkLineWidth ≤ to
-      next-line-fits = (let l = left .lineHere in let t = left .toHere in omega arith)
+      -- the line and the section lie in the report, also as the judge of the bulk leaves it
+      module _ (report' : List ℕ) (kept : length report' ≡ length report) where
+        pub section-within : (n : ℕ) → n ≡ countAt sheet at → to + 4 + messageLineWidth * n ≤ length report'
+        section-within n en = rw (kept, left .reportWide, en) (let s = left .space in let e = messages-left in omega arith)
 
-      pub next-to-fits : (n : ℕ) → n ≡ countAt sheet at → to + 4 + messageLineWidth * n ≤ length report₀
-      next-to-fits n en = (let s = left .space in let e = messages-left in rw en (omega arith))
+        pub line-within : line + bulkLineWidth ≤ length report'
+        line-within = (let l = left .lineHere in let t = left .toHere in let s = section-within (countAt sheet at) refl in omega arith)
 
       module _ (register' positions' report' : List ℕ)
           (told : BulkTold date table (bulkAt sheet head at) (stateOf register positions) report line to register' positions' report')

@@ -12,6 +12,7 @@ use Rattle.wire.specs.Field.{bytesOf}
 use Rattle.wire.proofs.Numbers.{bytes-length}
 use Rattle.sheet.specs.Sheet.{headerWidth, bulkCount, messageCount, firstSection, bulksOf}
 use Rattle.sheet.proofs.Laws.{whole-facts}
+use Rattle.report.specs.Room.{mostCounted}
 use Rattle.report.specs.Line.{bulkLineWidth, reportLength}
 use Rattle.report.proofs.Laws.{sets-then}
 use Rattle.judging.specs.Judgement.{State, judgeBulks}
@@ -60,8 +61,8 @@ module _ (call : Call) (checked : Checked) (bulks messages : ℕ) (e : checked �
         space = rw kept (passed .space);
       }
 
-  pub report-small : 4 + 68 * bulks + 38 * messages ≤ 1000000
-  report-small = (let b = passed .fewBulks in let m = passed .fewMessages in omega arith)
+  pub both-few : (bulks ≤ mostCounted) × (messages ≤ mostCounted)
+  both-few = (let b = passed .fewBulks in let m = passed .fewMessages in (omega arith, omega arith))
 
   module _ (counted register' positions' report' : List ℕ) (count : counted ≡ sets (call .report) 0 (bytesOf 4 bulks))
       (judged : BulksTold (call .date) (call .table) (call .sheet) bulks (stateOf (call .register) (call .positions)) counted register' positions' report') where
@@ -77,7 +78,7 @@ module _ (call : Call) (checked : Checked) (bulks messages : ℕ) (e : checked �
         ∙ ap (λ (k : ℕ). sets (sets (call .report) 0 (bytesOf 4 bulks ++ judgement call .lines)) k (judgement call .sections)) (sym (zero-add (4 + bulkLineWidth * bulks)))
         ∙ sets-then (call .report) 0 (4 + bulkLineWidth * bulks) (bytesOf 4 bulks ++ judgement call .lines) (judgement call .sections) front
 
-    length-is : 4 + 68 * bulks + 38 * messages ≡ reportLength (bulkCount (call .sheet)) (messageCount (call .sheet))
+    length-is : reportLength bulks messages ≡ reportLength (bulkCount (call .sheet)) (messageCount (call .sheet))
     length-is = (let m = passed .measured in rw (m .bulkCount, m .messageCount))
 
     report-is : report' ≡ judgedOf call (judgement call) .report
@@ -85,13 +86,13 @@ module _ (call : Call) (checked : Checked) (bulks messages : ℕ) (e : checked �
         whole-report
         ∙ ap (λ (k : ℕ). sets (call .report) 0 (bytesOf 4 k ++ judgement call .lines ++ judgement call .sections)) (passed .measured .bulkCount)
 
-    pub judged-told : left (Judged (4 + 68 * bulks + 38 * messages)) register' positions' report' ≡ outcome call
+    pub judged-told : (n : ℕ) → n ≡ reportLength bulks messages → left (Judged n) register' positions' report' ≡ outcome call
     unfolding outcome refusal
-    judged-told =
+    judged-told n told-length =
         let clean = subst (CheckTold refusals call) e told .0 in
         rw clean (λ i. record {
           number = 0;
-          length = length-is i;
+          length = (told-length ∙ length-is) i;
           register = judged .register i;
           positions = judged .positions i;
           report = report-is i;

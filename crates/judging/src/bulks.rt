@@ -112,9 +112,9 @@ pub(crate) fn judge_bulks(
     ensures { λ _. ⌜ BulksTold date (now (table .entry)) (now (sheet .entry)) bulks (stateOf (now (register .entry)) (now (positions .entry))) (now (report .entry)) (now (register .exit)) (now (positions .exit)) (now (report .exit)) ⌝ }
 {
     let mut heads = Cursor { at: 4 };
-    let mut bodies = Cursor { at: 4 + 65 * bulks };
+    let mut bodies = Cursor::after_headers(sheet, bulks);
     let mut line = 4;
-    let mut to = 4 + 64 * bulks;
+    let mut to = report::first_section(report, bulks);
     let mut k = 0;
     while k < bulks {
         let header = heads.header(sheet);
@@ -137,9 +137,9 @@ pub(crate) fn judge_bulks(
         );
         let next = header.next;
         heads = next;
-        bodies = Cursor { at: at + 81 * n };
-        line += 64;
-        to = to + 4 + 38 * n;
+        bodies = first.skip(sheet, n);
+        line = report::after_line(report, line);
+        to = report::after_section(report, to, n);
         k += 1;
     }
 }

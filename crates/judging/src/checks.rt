@@ -5,6 +5,10 @@ ghost use Rattle.judging.specs.Ready.{callOf, contents, Measured, CheckT
 use crate::Refusal;
 use sheet::Shape;
 
+const MOST_BULKS: usize = 999;
+
+const MOST_MESSAGES: usize = 15000;
+
 // The first refusal, or the bulks and messages of a file that passes.
 pub enum Checked {
     Stopped(Refusal),
@@ -25,7 +29,7 @@ fn check_contents(
     requires { ⌜ Measured (now sheet) bulks messages ⌝ }
     ensures { λ r. ⌜ CheckTold contents (callOf date (now (sheet .entry)) (now (table .entry)) (now (register .entry)) (now (positions .entry)) (now (report .entry))) r ⌝ }
 {
-    if (999 < bulks) | (15000 < messages) {
+    if (MOST_BULKS < bulks) | (MOST_MESSAGES < messages) {
         return Checked::Stopped(Refusal::Size);
     }
     if !sheet::kinds_known(sheet, bulks) {
@@ -37,10 +41,10 @@ fn check_contents(
     if register::free(register) < bulks + messages {
         return Checked::Stopped(Refusal::Room);
     }
-    if !positions::room_for_all(positions, messages as u64 * 99999999999) {
+    if !positions::room_for_all(positions, messages as u64 * rules::MOST_CENTS) {
         return Checked::Stopped(Refusal::Limit);
     }
-    if report.len() < 4 + 68 * bulks + 38 * messages {
+    if report.len() < report::space_for(bulks, messages) {
         return Checked::Stopped(Refusal::Space);
     }
     Checked::Fine(bulks, messages)

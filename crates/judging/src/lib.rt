@@ -55,7 +55,7 @@ pub fn judge(
                 bulks,
                 messages,
             );
-            Answer::Judged(4 + 68 * bulks + 38 * messages)
+            Answer::Judged(report::space_for(bulks, messages))
         }
     }
 }

@@ -1,11 +1,15 @@
 // The report: the running tally of a bulk, and the two kinds of line. It knows nothing of why a line says what it says.
 ghost use mathlib.Core.Path.{_≡_};
-ghost use Prim.Native.Nat.{_+_, _^_, _≤_, _<_};
+ghost use Prim.Native.Nat.{_+_, _*_, _^_, _≤_, _<_};
 ghost use lib.ListN.{length};
 ghost use lib.Seq.{sets};
 ghost use Rattle.report.specs.Tally.{nothing, centsOf, totalsOf, withAccepted, withRejected};
 ghost use Rattle.report.specs.Room.{Room, SideTold, mostCounted};
-ghost use Rattle.report.specs.Line.{lineHead, bulkLine, messageLine, lineHeadWidth, bulkLineWidth, messageLineWidth};
+ghost use Rattle.report.specs.Line.{lineHead, bulkLine, messageLine, lineHeadWidth, bulkLineWidth, messageLineWidth, reportLength};
+
+const BULK_LINE_WIDTH: usize = 64;
+
+const MESSAGE_LINE_WIDTH: usize = 38;
 
 // Cents, as the high and the low half: a total may pass 64 bits.
 pub struct Cents(pub u64, pub u64);
@@ -107,6 +111,38 @@ impl Tally {
             rejected: self.rejected.plus(amount),
         }
     }
+}
+
+// What the report on so many bulks and messages takes.
+pub fn space_for(bulks: usize, messages: usize) -> usize
+    requires { ⌜ (bulks ≤ mostCounted) × (messages ≤ mostCounted) ⌝ }
+    ensures { λ r. ⌜ r ≡ reportLength bulks messages ⌝ }
+{
+    4 + (BULK_LINE_WIDTH + 4) * bulks + MESSAGE_LINE_WIDTH * messages
+}
+
+// Where the first section begins, after the lines of so many bulks.
+pub fn first_section(out: &[u8], bulks: usize) -> usize
+    requires { ⌜ 4 + bulkLineWidth * bulks ≤ length (now out) ⌝ }
+    ensures { λ r. ⌜ r ≡ 4 + bulkLineWidth * bulks ⌝ }
+{
+    4 + BULK_LINE_WIDTH * bulks
+}
+
+// The place after the bulk line that begins at place at.
+pub fn after_line(out: &[u8], at: usize) -> usize
+    requires { ⌜ at + bulkLineWidth ≤ length (now out) ⌝ }
+    ensures { λ r. ⌜ r ≡ at + bulkLineWidth ⌝ }
+{
+    at + BULK_LINE_WIDTH
+}
+
+// The place after the section of n messages' lines that begins at place at.
+pub fn after_section(out: &[u8], at: usize, n: usize) -> usize
+    requires { ⌜ at + 4 + messageLineWidth * n ≤ length (now out) ⌝ }
+    ensures { λ r. ⌜ r ≡ at + (4 + messageLineWidth * n) ⌝ }
+{
+    at + (4 + MESSAGE_LINE_WIDTH * n)
 }
 
 // Writes what both kinds of line begin with from place at on.

@@ -16,6 +16,9 @@ use sheet::Header;
 use sheet::Message;
 use wire::Halves;
 
+// The EPC limit of an amount.
+pub const MOST_CENTS: u64 = 99999999999;
+
 // The bits of a header's marks.
 const CLRG: u8 = 0;
 
@@ -64,7 +67,7 @@ pub fn unreachable(table: &[u8], row: Found) -> bool
 pub fn amount_wrong(amount: u64) -> bool
     ensures { λ r. ⌜ r ≡ amountWrong amount ⌝ }
 {
-    !((1 <= amount) & (amount <= 99999999999))
+    !((1 <= amount) & (amount <= MOST_CENTS))
 }
 
 // Whether a payment tells something of an original.

@@ -7,6 +7,10 @@ ghost use lib.ListN.{length};
 ghost use Rattle.sheet.specs.Sheet.{headerWidth, messageWidth, headersOf, shape, kindsKnown, mixed};
 ghost use Rattle.sheet.specs.Reading.{CountRead, HeaderRead, MessageRead, shapeOf};
 
+pub const HEADER_WIDTH: usize = 65;
+
+pub const MESSAGE_WIDTH: usize = 81;
+
 // A place in the sheet. Each method hands back the place after what it read.
 pub struct Cursor {
     pub at: usize,
@@ -43,6 +47,16 @@ pub enum Shape {
 }
 
 impl Cursor {
+    // At the first section, after so many headers.
+    pub fn after_headers(s: &[u8], bulks: usize) -> Cursor
+        requires { ⌜ 4 + headerWidth * bulks ≤ length (now s) ⌝ }
+        ensures { λ r. ⌜ r .at ≡ 4 + headerWidth * bulks ⌝ }
+    {
+        Cursor {
+            at: 4 + HEADER_WIDTH * bulks,
+        }
+    }
+
     pub fn count(self, s: &[u8]) -> Counted
         requires { ⌜ self .at + 4 ≤ length (now s) ⌝ }
         ensures { λ r. ⌜ CountRead (now (s .entry)) (self .at) r ⌝ }
@@ -66,7 +80,9 @@ impl Cursor {
             sum: wire::u64_at(s, at + 52),
             date: wire::u32_at(s, at + 60),
             marks: wire::u8_at(s, at + 64),
-            next: Cursor { at: at + 65 },
+            next: Cursor {
+                at: at + HEADER_WIDTH,
+            },
         }
     }
 
@@ -79,7 +95,20 @@ impl Cursor {
             at,
             amount: wire::u64_at(s, at + 46),
             original: wire::u64_at(s, at + 54),
-            next: Cursor { at: at + 81 },
+            next: Cursor {
+                at: at + MESSAGE_WIDTH,
+            },
+        }
+    }
+
+    // Past n messages.
+    pub fn skip(self, s: &[u8], n: usize) -> Cursor
+        requires { ⌜ self .at + messageWidth * n ≤ length (now s) ⌝ }
+        ensures { λ r. ⌜ r .at ≡ self .at + messageWidth * n ⌝ }
+    {
+        let at = self.at;
+        Cursor {
+            at: at + MESSAGE_WIDTH * n,
         }
     }
 }
@@ -90,7 +119,7 @@ pub fn measure(s: &[u8]) -> Shape
     ensures { λ r. ⌜ shapeOf r ≡ shape (now (s .entry)) ⌝ }
 {
     let bulks = wire::u32_at(s, 0) as usize;
-    let mut at = 4 + 65 * bulks;
+    let mut at = 4 + HEADER_WIDTH * bulks;
     let mut messages = 0;
     let mut k = 0;
     while k < bulks {
@@ -98,7 +127,7 @@ pub fn measure(s: &[u8]) -> Shape
             return Shape::Broken;
         }
         let n = wire::u32_at(s, at) as usize;
-        at = at + 4 + 81 * n;
+        at = at + 4 + MESSAGE_WIDTH * n;
         messages += n;
         k += 1;
     }
@@ -121,7 +150,7 @@ pub fn kinds_known(s: &[u8], n: usize) -> bool
         if !((kind == 1) | (kind == 3)) {
             return false;
         }
-        at += 65;
+        at += HEADER_WIDTH;
         k += 1;
     }
     true
@@ -141,7 +170,7 @@ pub fn kinds_mixed(s: &[u8], n: usize) -> bool
             return true;
         }
         seen = seen | (kind == 3);
-        at += 65;
+        at += HEADER_WIDTH;
         k += 1;
     }
     false

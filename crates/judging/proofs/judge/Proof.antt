@@ -1,8 +1,7 @@
 -- `judging::judge` meets its contract: the answer and every byte that it leaves are those of the outcome's definition.
 -- Assumes nothing.
-use native.Mathlib.Omega.{arith}
 use Rattle.judging.specs.Ready.{callOf}
-use Rattle.judging.proofs.Whole.{refused-told, bulks-ready, report-small, judged-told}
+use Rattle.judging.proofs.Whole.{refused-told, bulks-ready, both-few, judged-told}
 use borrow.Author.Needs.{needs}
 use Rattle.judging.proofs.judge.Statement.{statement}
 use Rattle.judging.proofs.judge.Tie as tie
@@ -11,45 +10,17 @@ judge-bulks-requires : tie.Need-judge-bulks-requires
 judge-bulks-requires c κs =
     let a = c .before .before .before .before .before .before .before .before .before .before .before .before .before .before .before .before .before .before .before .args in
     let call = callOf (a .date) (a .sheet .now) (a .table .now) (a .register .now) (a .positions .now) (a .report .now) in
-    let told = c .before .before .before .before .before .before .before .before .before .before .check .ensures in
+    let check = c .before .before .before .before .before .before .before .before .before .before .check in
     let given = c .before .before .before .before .before .before .before .before .checked2 .given in
-    bulks-ready call (c .before .before .before .before .before .before .before .before .before .before .check .result) (given .0 .0) (given .0 .1 .0) (given .1) (told .0) (told .1) _ (c .before .before .before .before .before .put-number .kept .0)
+    bulks-ready call (check .result) (given .0 .0) (given .0 .1 .0) (given .1) (check .ensures .0) (check .ensures .1) _ (c .before .before .before .before .before .put-number .kept .0)
 
-mul-t28 : tie.Need-mul-t28
-mul-t28 c =
+space-for-requires : tie.Need-space-for-requires
+space-for-requires c κs =
     let a = c .before .before .before .before .before .before .before .before .before .before .before .before .before .before .before .before .before .before .before .before .before .before .before .before .before .before .args in
     let call = callOf (a .date) (a .sheet .now) (a .table .now) (a .register .now) (a .positions .now) (a .report .now) in
-    let told = c .before .before .before .before .before .before .before .before .before .before .before .before .before .before .before .before .before .check .ensures in
+    let check = c .before .before .before .before .before .before .before .before .before .before .before .before .before .before .before .before .before .check in
     let given = c .before .before .before .before .before .before .before .before .before .before .before .before .before .before .before .checked2 .given in
-    let small = report-small call (c .before .before .before .before .before .before .before .before .before .before .before .before .before .before .before .before .before .check .result) (given .0 .0) (given .0 .1 .0) (given .1) (told .0) (told .1) in
-    omega (arith, small)
-
-add-t29 : tie.Need-add-t29
-add-t29 c =
-    let a = c .before .before .before .before .before .before .before .before .before .before .before .before .before .before .before .before .before .before .before .before .before .before .before .before .before .before .args in
-    let call = callOf (a .date) (a .sheet .now) (a .table .now) (a .register .now) (a .positions .now) (a .report .now) in
-    let told = c .before .before .before .before .before .before .before .before .before .before .before .before .before .before .before .before .before .check .ensures in
-    let given = c .before .before .before .before .before .before .before .before .before .before .before .before .before .before .before .checked2 .given in
-    let small = report-small call (c .before .before .before .before .before .before .before .before .before .before .before .before .before .before .before .before .before .check .result) (given .0 .0) (given .0 .1 .0) (given .1) (told .0) (told .1) in
-    omega (arith, small)
-
-mul-t30 : tie.Need-mul-t30
-mul-t30 c =
-    let a = c .before .before .before .before .before .before .before .before .before .before .before .before .before .before .before .before .before .before .before .before .before .before .before .before .before .before .args in
-    let call = callOf (a .date) (a .sheet .now) (a .table .now) (a .register .now) (a .positions .now) (a .report .now) in
-    let told = c .before .before .before .before .before .before .before .before .before .before .before .before .before .before .before .before .before .check .ensures in
-    let given = c .before .before .before .before .before .before .before .before .before .before .before .before .before .before .before .checked2 .given in
-    let small = report-small call (c .before .before .before .before .before .before .before .before .before .before .before .before .before .before .before .before .before .check .result) (given .0 .0) (given .0 .1 .0) (given .1) (told .0) (told .1) in
-    omega (arith, small)
-
-add-t31 : tie.Need-add-t31
-add-t31 c =
-    let a = c .before .before .before .before .before .before .before .before .before .before .before .before .before .before .before .before .before .before .before .before .before .before .before .before .before .before .args in
-    let call = callOf (a .date) (a .sheet .now) (a .table .now) (a .register .now) (a .positions .now) (a .report .now) in
-    let told = c .before .before .before .before .before .before .before .before .before .before .before .before .before .before .before .before .before .check .ensures in
-    let given = c .before .before .before .before .before .before .before .before .before .before .before .before .before .before .before .checked2 .given in
-    let small = report-small call (c .before .before .before .before .before .before .before .before .before .before .before .before .before .before .before .before .before .check .result) (given .0 .0) (given .0 .1 .0) (given .1) (told .0) (told .1) in
-    omega (arith, small)
+    both-few call (check .result) (given .0 .0) (given .0 .1 .0) (given .1) (check .ensures .0) (check .ensures .1)
 
 returns : tie.Need-returns
 returns c =
@@ -59,11 +30,11 @@ returns c =
 
 returns-2 : tie.Need-returns-2
 returns-2 c =
-    let a = c .before .before .before .before .before .before .before .before .before .before .before .before .before .before .before .before .before .before .before .before .before .before .before .before .before .before .args in
+    let a = c .before .before .before .before .before .before .before .before .before .before .before .before .before .before .before .before .before .before .before .before .before .before .before .before .before .before .before .args in
     let call = callOf (a .date) (a .sheet .now) (a .table .now) (a .register .now) (a .positions .now) (a .report .now) in
-    let told = c .before .before .before .before .before .before .before .before .before .before .before .before .before .before .before .before .before .check .ensures in
-    let given = c .before .before .before .before .before .before .before .before .before .before .before .before .before .before .before .checked2 .given in
-    judged-told call (c .before .before .before .before .before .before .before .before .before .before .before .before .before .before .before .before .before .check .result) (given .0 .0) (given .0 .1 .0) (given .1) (told .0) (told .1) _ _ _ _ (c .before .before .before .before .before .before .before .before .before .before .before .before .put-number .ensures) (c .before .before .before .before .before .before .judge-bulks .ensures)
+    let check = c .before .before .before .before .before .before .before .before .before .before .before .before .before .before .before .before .before .before .check in
+    let given = c .before .before .before .before .before .before .before .before .before .before .before .before .before .before .before .before .checked2 .given in
+    judged-told call (check .result) (given .0 .0) (given .0 .1 .0) (given .1) (check .ensures .0) (check .ensures .1) _ _ _ _ (c .before .before .before .before .before .before .before .before .before .before .before .before .before .put-number .ensures) (c .before .before .before .before .before .before .before .judge-bulks .ensures) _ (c .space-for .ensures)
 
 pub judge-spec : {M : Type 1} → statement M
-judge-spec = tie.close (tie.spec (λ c κs. search needs) (λ c. search needs) (λ c. search needs) (λ c κs. search needs) judge-bulks-requires mul-t28 add-t29 mul-t30 add-t31 (λ c. search needs) (λ c. search needs) (λ c. search needs) returns (λ c. search needs) (λ c. search needs) (λ c. search needs) returns-2)
+judge-spec = tie.close (tie.spec (λ c κs. search needs) (λ c. search needs) (λ c. search needs) (λ c κs. search needs) judge-bulks-requires space-for-requires (λ c. search needs) (λ c. search needs) (λ c. search needs) returns (λ c. search needs) (λ c. search needs) (λ c. search needs) returns-2)

@@ -65,32 +65,37 @@ returns-5 c =
     goes-on call Room _ _ (room-enough call (a .bulks) (a .messages) m _ (c .before .before .before .free .ensures) (c .before .before .if4 .left)) (
     stops call Limit _ (limit-told call (a .bulks) (a .messages) m _ true (c .before .room-for-all .ensures) (c .if5 .taken))))))
 
+space-for-requires : tie.Need-space-for-requires
+space-for-requires c κs =
+    let few = small (c .before .before .before .before .before .before .before .before .before .before .before .before .before .before .args .bulks) (c .before .before .before .before .before .before .before .before .before .before .before .before .before .before .args .messages) (c .before .before .before .before .before .before .before .before .if1 .left) in
+    (omega arith, omega arith)
+
 returns-6 : tie.Need-returns-6
 returns-6 c =
-    let a = c .before .before .before .before .before .before .before .before .before .before .before .before .before .before .before .args in
-    let m = c .before .before .before .before .before .before .before .before .before .before .before .before .before .before .before .pre in
+    let a = c .before .before .before .before .before .before .before .before .before .before .before .before .before .before .before .before .args in
+    let m = c .before .before .before .before .before .before .before .before .before .before .before .before .before .before .before .before .pre in
     let call = callOf (a .date) (a .sheet .now) (a .table .now) (a .register .now) (a .positions .now) (a .report .now) in
-    goes-on call Size _ _ (size-told call (a .bulks) (a .messages) m false (c .before .before .before .before .before .before .before .before .before .if1 .left)) (
-    goes-on call Kind _ _ (kind-told call (a .bulks) (a .messages) m _ false (c .before .before .before .before .before .before .before .before .kinds-known .ensures) (c .before .before .before .before .before .before .before .if2 .left)) (
-    goes-on call Order _ _ (order-told call (a .bulks) (a .messages) m _ false (c .before .before .before .before .before .before .kinds-mixed .ensures) (c .before .before .before .before .before .if3 .left)) (
-    goes-on call Room _ _ (room-enough call (a .bulks) (a .messages) m _ (c .before .before .before .before .free .ensures) (c .before .before .before .if4 .left)) (
-    goes-on call Limit _ _ (limit-told call (a .bulks) (a .messages) m _ false (c .before .before .room-for-all .ensures) (c .before .if5 .left)) (
-    stops call Space _ (space-lacks call (a .bulks) (a .messages) m (c .if6 .taken)))))))
+    goes-on call Size _ _ (size-told call (a .bulks) (a .messages) m false (c .before .before .before .before .before .before .before .before .before .before .if1 .left)) (
+    goes-on call Kind _ _ (kind-told call (a .bulks) (a .messages) m _ false (c .before .before .before .before .before .before .before .before .before .kinds-known .ensures) (c .before .before .before .before .before .before .before .before .if2 .left)) (
+    goes-on call Order _ _ (order-told call (a .bulks) (a .messages) m _ false (c .before .before .before .before .before .before .before .kinds-mixed .ensures) (c .before .before .before .before .before .before .if3 .left)) (
+    goes-on call Room _ _ (room-enough call (a .bulks) (a .messages) m _ (c .before .before .before .before .before .free .ensures) (c .before .before .before .before .if4 .left)) (
+    goes-on call Limit _ _ (limit-told call (a .bulks) (a .messages) m _ false (c .before .before .before .room-for-all .ensures) (c .before .before .if5 .left)) (
+    stops call Space _ (space-lacks call (a .bulks) (a .messages) m (rw (c .before .space-for .ensures) at (c .if6 .taken))))))))
 
 returns-7 : tie.Need-returns-7
 returns-7 c =
-    let a = c .before .before .before .before .before .before .before .before .before .before .before .before .before .before .before .args in
-    let m = c .before .before .before .before .before .before .before .before .before .before .before .before .before .before .before .pre in
+    let a = c .before .before .before .before .before .before .before .before .before .before .before .before .before .before .before .before .args in
+    let m = c .before .before .before .before .before .before .before .before .before .before .before .before .before .before .before .before .pre in
     let call = callOf (a .date) (a .sheet .now) (a .table .now) (a .register .now) (a .positions .now) (a .report .now) in (
-      goes-on call Size _ _ (size-told call (a .bulks) (a .messages) m false (c .before .before .before .before .before .before .before .before .before .if1 .left)) (
-          goes-on call Kind _ _ (kind-told call (a .bulks) (a .messages) m _ false (c .before .before .before .before .before .before .before .before .kinds-known .ensures) (c .before .before .before .before .before .before .before .if2 .left)) (
-          goes-on call Order _ _ (order-told call (a .bulks) (a .messages) m _ false (c .before .before .before .before .before .before .kinds-mixed .ensures) (c .before .before .before .before .before .if3 .left)) (
-          goes-on call Room _ _ (room-enough call (a .bulks) (a .messages) m _ (c .before .before .before .before .free .ensures) (c .before .before .before .if4 .left)) (
-          goes-on call Limit _ _ (limit-told call (a .bulks) (a .messages) m _ false (c .before .before .room-for-all .ensures) (c .before .if5 .left)) (
-          goes-on call Space _ _ (space-enough call (a .bulks) (a .messages) m (c .if6 .left)) (
+      goes-on call Size _ _ (size-told call (a .bulks) (a .messages) m false (c .before .before .before .before .before .before .before .before .before .before .if1 .left)) (
+          goes-on call Kind _ _ (kind-told call (a .bulks) (a .messages) m _ false (c .before .before .before .before .before .before .before .before .before .kinds-known .ensures) (c .before .before .before .before .before .before .before .before .if2 .left)) (
+          goes-on call Order _ _ (order-told call (a .bulks) (a .messages) m _ false (c .before .before .before .before .before .before .before .kinds-mixed .ensures) (c .before .before .before .before .before .before .if3 .left)) (
+          goes-on call Room _ _ (room-enough call (a .bulks) (a .messages) m _ (c .before .before .before .before .before .free .ensures) (c .before .before .before .before .if4 .left)) (
+          goes-on call Limit _ _ (limit-told call (a .bulks) (a .messages) m _ false (c .before .before .before .room-for-all .ensures) (c .before .before .if5 .left)) (
+          goes-on call Space _ _ (space-enough call (a .bulks) (a .messages) m (rw (c .before .space-for .ensures) at (c .if6 .left))) (
           none-left call)))))),
-      passed call (a .bulks) (a .messages) m (c .before .before .before .before .before .before .before .before .before .if1 .left) (c .if6 .left),
+      passed call (a .bulks) (a .messages) m (c .before .before .before .before .before .before .before .before .before .before .if1 .left) (rw (c .before .space-for .ensures) at (c .if6 .left)),
     )
 
 pub check-contents-spec : {M : Type 1} → statement M
-check-contents-spec = tie.close (tie.spec returns kinds-known-requires returns-2 kinds-mixed-requires returns-3 (λ c κs. search needs) add-if4 returns-4 mul-room-for-all (λ c κs. search needs) returns-5 (λ c. search needs) (λ c. search needs) (λ c. search needs) (λ c. search needs) returns-6 returns-7)
+check-contents-spec = tie.close (tie.spec returns kinds-known-requires returns-2 kinds-mixed-requires returns-3 (λ c κs. search needs) add-if4 returns-4 mul-room-for-all (λ c κs. search needs) returns-5 space-for-requires returns-6 returns-7)
