@@ -3,20 +3,18 @@ use mathlib.Core.Path.{_≡_, refl, sym, ap, _∙_}
 use mathlib.Core.Bool.{Bool, true, false, not, _||_, false≢true}
 use mathlib.Core.List.{List, [], _∷_}
 use Prim.Native.Nat.{ℕ, _+_, _*_, _≤_, _<_}
-use native.Mathlib.Omega.{arith}
-use lib.Dec.{leb, ltb, eqb}
+use lib.Dec.{ltb}
 use lib.ListN.{length}
 use borrow.Author.Tests.{lt-ltb, le-ltb, eq-eqb, ne-eqb, ltb-false}
-use mathlib.Core.Option.{Option, none, some}
+use mathlib.Core.Option.{none, some}
 use Rattle.calendar.specs.Date.{isDate}
 use Rattle.routing.specs.Table.{rows, wellFormed as tableFormed}
 use Rattle.register.specs.Register.{free, wellFormed as registerFormed}
 use Rattle.positions.specs.Positions.{positionWidth, roomForAll}
 use Rattle.sheet.specs.Sheet.{bulkCount, messageCount, whole, shape, headerWidth, headersOf, kindsKnown, mixed}
 use Rattle.sheet.proofs.Laws.{whole-facts, shape-facts, shape-none}
-use Rattle.rules.specs.Facts.{mostCents}
 use Rattle.report.specs.Line.{reportLength}
-use Rattle.judging.specs.Refusals.{Call, mostBulks, mostMessages, numberOf, holds, refusals, firstHolding}
+use Rattle.judging.specs.Refusals.{Call, numberOf, holds, refusals, firstHolding}
 use Rattle.judging.specs.Ready.{contents, Measured, Passed, CheckTold, Placed}
 use Rattle.judging.specs.declared.checks.Checked.{Checked}
 use Rattle.judging.specs.declared.checks.Checked.the-variants.{Stopped, Fine}

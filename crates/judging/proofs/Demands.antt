@@ -1,6 +1,6 @@
 -- What the judgement comes to, for each bulk: its messages and cents are all counted, accepted or rejected, and each of its faults
 -- shows if it holds and only then. Assumes nothing.
-use mathlib.Core.Path.{_≡_, refl, sym, ap, _∙_}
+use mathlib.Core.Path.{_≡_, refl}
 use mathlib.Core.Bool.{Bool, true, false, cond}
 use mathlib.Core.List.{List, [], _∷_}
 use Prim.Native.Nat.{ℕ, _+_, _/_, _%_, _^_}

@@ -1,6 +1,7 @@
 pub mod Amounts
 pub mod Cases
 pub mod Checking
+pub mod Clear
 pub mod Demands
 pub mod Loops
 pub mod Rounds

@@ -1,7 +1,7 @@
 -- The loop over a bulk's messages: what is left, judged from the state so far, comes to what all come to. Assumes nothing.
 use mathlib.Core.Path.{_≡_, refl, sym, ap, _∙_}
 use mathlib.Core.Bool.{Bool, true, false, cond}
-use mathlib.Core.List.{List, [], _∷_, _++_}
+use mathlib.Core.List.{List, _∷_}
 use Prim.Native.Nat.{ℕ, _+_, _-_, _*_, _^_, _≤_, _<_}
 use native.Mathlib.Nat.{sub-zero}
 use native.Mathlib.Omega.{arith}
@@ -15,11 +15,12 @@ use Rattle.report.specs.Tally.{Totals, nothing, withAccepted, withRejected, tot
 use Rattle.report.specs.Room.{Within}
 use Rattle.report.specs.Line.{messageLineWidth}
 use Rattle.report.specs.declared.Tally.{Tally}
-use Rattle.report.proofs.Laws.{sets-then, message-line-length, within-none, within-accepted, within-rejected, within-room}
-use Rattle.judging.specs.Judgement.{State, isAccepted, messageOutcome, faultsOf, afterMessage, lineOf, counted, judgeMessages}
+use Rattle.report.proofs.Laws.{message-line-length, within-none, within-accepted, within-rejected, within-room}
+use Rattle.judging.specs.Judgement.{State, afterMessage, lineOf, counted, judgeMessages}
 use Rattle.judging.specs.Ready.{stateOf, SectionReady, CountReady, MessageTold, MessagesTold}
 use Rattle.judging.proofs.Sums.{plus, plus-nothing, nothing-plus}
 use Rattle.judging.proofs.Walks.{after-first, lines-first, totals-first}
+use Rattle.wire.proofs.Stores.{sets-then}
 
 module _ (date : ℕ) (table header : List ℕ) (fallen : Bool) (sheet : List ℕ) (at n : ℕ) (before : State) (out₀ : List ℕ) where
   pub record MessagesLeft (register positions out : List ℕ) (t : Totals) (place j : ℕ) : Type 0 where

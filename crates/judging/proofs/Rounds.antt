@@ -1,24 +1,24 @@
 -- The loop over a file's bulks: what is left, judged from the state so far, comes to what all come to. Assumes nothing.
 use mathlib.Core.Path.{_≡_, refl, sym, ap, subst, _∙_}
-use mathlib.Core.List.{List, [], _∷_, _++_}
+use mathlib.Core.List.{List, _∷_, _++_}
 use Prim.Native.Nat.{ℕ, _+_, _-_, _*_, _≤_, _<_}
 use native.Mathlib.Nat.{sub-zero, le-of-eq}
 use native.Mathlib.Omega.{arith}
 use lib.ListN.{length, length-append}
 use lib.Seq.{sets}
 use Rattle.routing.specs.Table.{rows}
-use Rattle.sheet.specs.Sheet.{headerWidth, messageWidth, countAt, recordsAt, afterSection, Bulk, bulkAt, bulksFrom, bulksOf, bulkCount, firstSection, endFrom, messagesFrom, messageCount}
+use Rattle.sheet.specs.Sheet.{headerWidth, countAt, afterSection, bulkAt, bulksFrom, bulksOf, bulkCount, endFrom, messagesFrom, messageCount}
 use Rattle.sheet.specs.Reading.{HeaderRead}
 use Rattle.sheet.specs.declared.Header.{Header}
 use Rattle.sheet.proofs.Laws.{Inside, whole-facts, header-bound, end-step, end-bound, messages-step, bulks-step, bulks-end}
 use Rattle.positions.specs.Positions.{positionWidth}
-use Rattle.report.specs.Line.{messageLineWidth, bulkLineWidth, reportLength}
-use Rattle.report.proofs.Laws.{sets-then, sets-swap}
+use Rattle.report.specs.Line.{messageLineWidth, bulkLineWidth}
 use Rattle.judging.specs.Refusals.{mostMessages}
 use Rattle.judging.specs.Judgement.{State, bulkLineOf, sectionOf, afterBulk, judgeBulks}
-use Rattle.judging.specs.Ready.{stateOf, bulkIn, HeaderReady, SectionReady, BulkSpace, BulkTold, Measured, BulksReady, BulksTold}
+use Rattle.judging.specs.Ready.{stateOf, bulkIn, HeaderReady, SectionReady, BulkSpace, BulkTold, BulksReady, BulksTold}
 use Rattle.judging.proofs.Walks.{after-bulk, bulk-lines, bulk-sections}
 use Rattle.judging.proofs.Widths.{section-wide, bulk-line-wide, bulk-lines-wide}
+use Rattle.wire.proofs.Stores.{sets-then, sets-swap}
 
 module _ (date : ℕ) (table sheet : List ℕ) (bulks : ℕ) (before : State) (report₀ : List ℕ) where
   pub record BulksLeft (register positions report : List ℕ) (head at line to k : ℕ) : Type 0 where

@@ -2,20 +2,19 @@
 use mathlib.Core.Path.{_≡_, refl, sym, ap, _∙_}
 use mathlib.Core.Bool.{Bool, true, false, cond, not}
 use mathlib.Core.List.{List, _++_}
-use Prim.Native.Nat.{ℕ, _+_, _-_, _*_, _^_, _≤_, _<_}
+use Prim.Native.Nat.{ℕ, _+_, _-_, _*_, _≤_}
 use native.Mathlib.Omega.{arith}
 use lib.Dec.{eqb}
 use lib.ListN.{length, take, drop, length-take, length-drop}
 use lib.Seq.{sets, length-sets}
 use borrow.Author.Tests.{eq-eqb, ne-eqb}
-use borrow.Rule.Slice.PartMut.{midOf, putMid}
 use Rattle.wire.specs.Field.{part, bytesOf}
 use Rattle.wire.proofs.Numbers.{bytes-length}
 use Rattle.wire.proofs.Texts.{part-length}
 use Rattle.routing.specs.Lookup.{optionOf, rowOf, headOffice}
 use Rattle.routing.specs.Promise.{RowTold}
 use Rattle.routing.specs.declared.Found.{Found}
-use Rattle.sheet.specs.Sheet.{messageWidth, recordsAt, Bulk, senderOf, bulkIdentifierOf}
+use Rattle.sheet.specs.Sheet.{messageWidth}
 use Rattle.sheet.specs.declared.Header.{Header}
 use Rattle.sheet.proofs.Fields.{sender-there, bulk-identifier-there}
 use Rattle.sheet.proofs.Laws.{records-length}
@@ -26,9 +25,9 @@ use Rattle.rules.specs.Asked.{BulkAsked}
 use Rattle.report.specs.Tally.{Totals, totalsOf}
 use Rattle.report.specs.Line.{bulkLine, bulkLineWidth, messageLineWidth}
 use Rattle.report.specs.declared.Tally.{Tally}
-use Rattle.report.proofs.Laws.{sets-then, middle-lent}
 use Rattle.judging.specs.Judgement.{State, judgeMessages, sumOf, bulkOutcome, faultsOfBulk, falls, messagesJudged, bulkLineOf, sectionOf, afterBulk}
-use Rattle.judging.specs.Ready.{stateOf, headerIn, messagesIn, bulkIn, HeaderReady, BulkReady, SectionReady, BulkSpace, MessagesTold, BulkTold}
+use Rattle.judging.specs.Ready.{headerIn, messagesIn, bulkIn, HeaderReady, BulkReady, BulkSpace, MessagesTold, BulkTold}
+use Rattle.wire.proofs.Stores.{sets-then}
 
 -- ---- outcomes
 

@@ -3,7 +3,7 @@ use mathlib.Core.Path.{_≡_, sym, ap, subst, _∙_}
 use mathlib.Core.Bool.{Bool, true, false, not, _&&_}
 use mathlib.Core.List.{List}
 use mathlib.Core.Option.{Option}
-use Prim.Native.Nat.{ℕ, _+_, _*_, _≤_}
+use Prim.Native.Nat.{ℕ, _+_, _≤_}
 use native.Mathlib.Omega.{arith}
 use lib.Dec.{eqb}
 use lib.ListN.{length}
@@ -12,21 +12,19 @@ use Rattle.wire.specs.Field.{part}
 use Rattle.wire.proofs.Texts.{part-length}
 use Rattle.routing.specs.Table.{rows}
 use Rattle.routing.specs.Lookup.{optionOf, route}
-use Rattle.routing.specs.Promise.{Below, RowTold}
+use Rattle.routing.specs.Promise.{RowTold}
 use Rattle.routing.specs.declared.Found.{Found}
-use Rattle.sheet.specs.Sheet.{headerWidth, messageWidth, senderOf, identifierOf, receiverOf, amountOf}
+use Rattle.sheet.specs.Sheet.{messageWidth, senderOf, identifierOf, receiverOf, amountOf}
 use Rattle.sheet.specs.Reading.{MessageRead}
 use Rattle.sheet.specs.declared.Header.{Header}
 use Rattle.sheet.specs.declared.Message.{Message}
-use Rattle.sheet.proofs.Fields.{sender-there, identifier-there, receiver-there}
+use Rattle.sheet.proofs.Fields.{receiver-there}
 use Rattle.register.specs.Register.{entry, messageTag, add}
-use Rattle.register.specs.Room.{Parts}
-use Rattle.positions.specs.Positions.{positionWidth}
 use Rattle.rules.specs.Facts.{senderRow}
 use Rattle.rules.specs.Asked.{MessageAsked}
 use Rattle.report.specs.Line.{messageLine, messageLineWidth}
 use Rattle.judging.specs.Judgement.{State, isAccepted, messageOutcome, moved, faultsOf, afterMessage, lineOf}
-use Rattle.judging.specs.Ready.{MoveReady, BulkReady, MessageReady, MessageTold, headerIn, messageIn}
+use Rattle.judging.specs.Ready.{MoveReady, BulkReady, MessageReady, MessageTold}
 
 -- ---- what the callees ask
 

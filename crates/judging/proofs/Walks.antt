@@ -1,14 +1,11 @@
 -- A step of the judgement: the first message or bulk, and what is left. Assumes nothing.
-use mathlib.Core.Path.{_≡_, refl, sym, ap, _∙_}
+use mathlib.Core.Path.{_≡_, refl}
 use mathlib.Core.Bool.{Bool}
-use mathlib.Core.List.{List, [], _∷_, _++_}
-use Prim.Native.Nat.{ℕ, _+_}
-use lib.ListN.{length}
-use lib.Seq.{sets}
-use Rattle.wire.proofs.Stores.{sets-append}
+use mathlib.Core.List.{List, _∷_, _++_}
+use Prim.Native.Nat.{ℕ}
 use Rattle.sheet.specs.Sheet.{Bulk}
 use Rattle.report.specs.Tally.{Totals}
-use Rattle.judging.specs.Judgement.{State, Judged, afterMessage, lineOf, counted, judgeMessages, bulkLineOf, sectionOf, afterBulk, judgeBulks}
+use Rattle.judging.specs.Judgement.{State, afterMessage, lineOf, counted, judgeMessages, bulkLineOf, sectionOf, afterBulk, judgeBulks}
 use Rattle.judging.proofs.Sums.{plus, counted-plus}
 
 module _ (date : ℕ) (table header : List ℕ) (fallen : Bool) (m : List ℕ) (ms : List (List ℕ)) (before : State) where

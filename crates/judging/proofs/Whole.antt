@@ -1,6 +1,6 @@
 -- The whole call: a refusal, or the count, the bulk lines and the sections as one report. Assumes nothing.
 use mathlib.Core.Path.{_≡_, refl, sym, ap, subst, _∙_}
-use mathlib.Core.Bool.{Bool, true, false, cond}
+use mathlib.Core.Bool.{false}
 use mathlib.Core.List.{List, _++_}
 use Prim.Native.Nat.{ℕ, _+_, _*_, _≤_}
 use native.Mathlib.Nat.{zero-add}
@@ -10,14 +10,12 @@ use lib.ListN.{length, length-append}
 use lib.Seq.{sets}
 use Rattle.wire.specs.Field.{bytesOf}
 use Rattle.wire.proofs.Numbers.{bytes-length}
-use Rattle.sheet.specs.Sheet.{headerWidth, bulkCount, messageCount, firstSection, bulksOf}
+use Rattle.sheet.specs.Sheet.{headerWidth, bulkCount, messageCount, firstSection}
 use Rattle.sheet.proofs.Laws.{whole-facts}
 use Rattle.report.specs.Room.{mostCounted}
 use Rattle.report.specs.Line.{bulkLineWidth, reportLength}
-use Rattle.report.proofs.Laws.{sets-then}
-use Rattle.judging.specs.Judgement.{State, judgeBulks}
 use Rattle.judging.specs.Refusals.{Call, numberOf, refusals, refusal}
-use Rattle.judging.specs.Outcome.{Outcome, left, judgement, judgedOf, outcome}
+use Rattle.judging.specs.Outcome.{left, judgement, judgedOf, outcome}
 use Rattle.judging.specs.Ready.{stateOf, Passed, CheckTold, Placed, BulksReady, BulksTold}
 use Rattle.judging.specs.declared.Refusal.{Refusal}
 use Rattle.judging.specs.declared.Refusal.the-variants.{Date, Table, Positions, Register, Sheet, Size, Kind, Order, Room, Limit, Space}
@@ -25,9 +23,10 @@ use Rattle.judging.specs.declared.Answer.the-variants.{Refused, Judged}
 use Rattle.judging.specs.declared.checks.Checked.{Checked}
 use Rattle.judging.specs.declared.checks.Checked.the-variants.{Stopped, Fine}
 use Rattle.judging.proofs.Widths.{bulk-lines-wide}
+use Rattle.wire.proofs.Stores.{sets-then}
 
 -- no refusal has the number 0
-some-number : (r : Refusal) → eqb (numberOf r) 0 ≡ false
+pub some-number : (r : Refusal) → eqb (numberOf r) 0 ≡ false
 some-number Date = refl
 some-number Table = refl
 some-number Positions = refl

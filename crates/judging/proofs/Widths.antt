@@ -7,7 +7,7 @@ use native.Mathlib.Omega.{arith}
 use lib.ListN.{length, length-append}
 use Rattle.wire.specs.Field.{part, bytesOf}
 use Rattle.wire.proofs.Numbers.{bytes-length}
-use Rattle.sheet.specs.Sheet.{headerWidth, messageWidth, countAt, recordsAt, afterSection, Bulk, bulkAt, bulksFrom, identifierOf, bulkIdentifierOf}
+use Rattle.sheet.specs.Sheet.{headerWidth, messageWidth, recordsAt, afterSection, Bulk, bulkAt, bulksFrom, identifierOf, bulkIdentifierOf}
 use Rattle.sheet.proofs.Fields.{identifier-width, bulk-identifier-width}
 use Rattle.report.specs.Line.{messageLineWidth, bulkLineWidth}
 use Rattle.report.proofs.Laws.{message-line-length, bulk-line-length}

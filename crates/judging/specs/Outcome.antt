@@ -1,13 +1,13 @@
 -- The outcome of a call as one record: the answer, and every byte that it leaves. Assumes nothing.
 use Prim.Native.Nat.{ℕ}
-use mathlib.Core.Bool.{Bool, cond}
+use mathlib.Core.Bool.{cond}
 use mathlib.Core.List.{List, _++_}
 use lib.Seq.{sets}
 use lib.Dec.{eqb}
 use Rattle.wire.specs.Field.{bytesOf}
 use Rattle.sheet.specs.Sheet.{bulkCount, messageCount, bulksOf}
 use Rattle.report.specs.Line.{reportLength}
-use Rattle.judging.specs.Judgement.{State, JudgedBulks, judgeBulks}
+use Rattle.judging.specs.Judgement.{JudgedBulks, judgeBulks}
 use Rattle.judging.specs.Refusals.{Call, numberOf, refusal}
 use Rattle.judging.specs.declared.Answer.{Answer}
 use Rattle.judging.specs.declared.Answer.the-variants.{Refused, Judged}

@@ -1,6 +1,6 @@
 -- What the judge's inner functions ask of their one caller, and what they tell it. Contract plumbing: the judgement itself is
 -- defined in Judgement. Assumes nothing.
-use Prim.Native.Nat.{ℕ, _+_, _*_, _≤_, _<_}
+use Prim.Native.Nat.{ℕ, _+_, _*_, _≤_}
 use mathlib.Core.Path.{_≡_}
 use mathlib.Core.Bool.{Bool, true}
 use mathlib.Core.List.{List, [], _∷_}

@@ -2,82 +2,22 @@
 use mathlib.Core.Path.{_≡_, sym, ap, _∙_}
 use mathlib.Core.Logic.{⊎-elim}
 use mathlib.Core.Bool.{Bool, true, false}
-use mathlib.Core.List.{List, [], _∷_, _++_}
-use Prim.Native.Nat.{ℕ, zero, suc, _+_, _-_, _*_, _/_, _%_, _^_, _≤_, _<_}
-use native.Mathlib.Nat.{zero-add, sub-zero, mod-lt, div-add-mod', pow-le-pow-right}
+use mathlib.Core.List.{List}
+use Prim.Native.Nat.{ℕ, _+_, _-_, _/_, _%_, _^_, _≤_, _<_}
+use native.Mathlib.Nat.{sub-zero}
 use native.Mathlib.Omega.{arith}
-use lib.Dec.{lit<, leb}
-use lib.ListN.{length, take, drop, set, length-append, take-append-drop}
-use lib.Seq.{sets, sets-eq, length-sets, length-take-le, drop-at, take-add}
+use lib.Dec.{leb}
+use lib.ListN.{length}
+use lib.Seq.{sets, length-sets}
 use borrow.Author.Tests.{leb-true, le-leb, lt-leb, lt-ltb, le-ltb}
 use Rattle.wire.specs.Field.{Bytes, part, numberOf, bytesOf}
 use Rattle.wire.specs.Places.{everyFrom}
-use Rattle.wire.proofs.Numbers.{bytes-length, bytes-split, written-read, read-written, number-below}
+use Rattle.wire.proofs.Numbers.{bytes-length, written-read, read-written, number-below, bytes-mod}
 use Rattle.wire.proofs.Scans.{every-holds}
 use Rattle.wire.proofs.Sides.{le-or-lt}
-use Rattle.wire.proofs.Stores.{part-stored, part-before, part-after}
+use Rattle.wire.proofs.Stores.{part-stored, part-before, part-after, sets-over, sets-same, written-bytes, sets-bytes}
 use Rattle.wire.proofs.Texts.{part-bytes, part-length}
 use Rattle.positions.specs.Positions.{positionWidth, positionPlace, HasRow, positionAt, magnitude, mostPosition, hasRoom, roomForAll, gains, loses, pays}
-
--- ---- numbers and stores, once over the width
-
--- what passes the width is dropped
-pub bytes-mod : (w x : ℕ) → bytesOf w (x % 256 ^ w) ≡ bytesOf w x
-unfolding bytesOf
-bytes-mod w x =
-    let below : x % 256 ^ w < 256 ^ w = mod-lt x (pow-le-pow-right (lit< tt) {i = 0} {j = w} (omega arith)) in
-    sym (
-    ap (bytesOf w) (sym (div-add-mod' x (256 ^ w)))
-    ∙ ap (λ (n : ℕ). bytesOf n (x / 256 ^ w * 256 ^ w + x % 256 ^ w)) (sym (zero-add w))
-    ∙ bytes-split 0 w (x / 256 ^ w) (x % 256 ^ w) below)
-
--- what stands past a store
-past-store : (d : List ℕ) (at : ℕ) (xs : List ℕ) → at + length xs ≤ length d → drop (at + length xs) (sets d at xs) ≡ drop (at + length xs) d
-past-store d at xs h =
-    let front : length (take at d) ≡ at = length-take-le at d (omega arith) in
-    ap (drop (at + length xs)) (sets-eq xs d at h)
-    ∙ drop-at (take at d ++ xs) (drop (at + length xs) d) (at + length xs) (simp length-append (omega arith))
-
--- a store over another of the same width
-pub sets-over : (d : List ℕ) (at : ℕ) (xs ys : List ℕ) → length xs ≡ length ys → at + length ys ≤ length d
-    → sets (sets d at xs) at ys ≡ sets d at ys
-sets-over d at xs ys equal h =
-    sets-eq ys (sets d at xs) at (rw (length-sets d at xs) h)
-    ∙ (rw (part-before d at xs 0 at (omega arith), ← equal, past-store d at xs (omega arith), equal))
-    ∙ sym (sets-eq ys d at h)
-
-pub sets-same : (d : List ℕ) (at n : ℕ) → at + n ≤ length d → sets d at (part d at n) ≡ d
-sets-same d at n h =
-    let wide : length (part d at n) ≡ n = part-length d at n h in
-    sets-eq (part d at n) d at (omega arith)
-    ∙ (rw (wide, ← (take-add at n d)) (take-append-drop (at + n) d))
-
--- ---- bytes stay bytes
-
-append-bytes : (xs ys : List ℕ) → Bytes xs → Bytes ys → Bytes (xs ++ ys)
-append-bytes [] ys hx hy i = hy i
-append-bytes (x ∷ xs) ys hx hy zero = hx 0
-append-bytes (x ∷ xs) ys hx hy (suc i) = append-bytes xs ys (λ k. hx (suc k)) hy i
-
-pub written-bytes : (w x : ℕ) → Bytes (bytesOf w x)
-unfolding bytesOf
-written-bytes zero x i = lit< tt
-written-bytes (suc w) x i = append-bytes (bytesOf w (x / 256)) (x % 256 ∷ []) (written-bytes w (x / 256)) last i
-  where
-    last : Bytes (x % 256 ∷ [])
-    last zero = mod-lt x (lit< tt)
-    last (suc i) = lit< tt
-
-set-bytes : (d : List ℕ) (at x : ℕ) → Bytes d → x < 256 → Bytes (set d at x)
-set-bytes [] at x hd hx i = hd i
-set-bytes (y ∷ d) zero x hd hx zero = hx
-set-bytes (y ∷ d) zero x hd hx (suc i) = hd (suc i)
-set-bytes (y ∷ d) (suc at) x hd hx zero = hd 0
-set-bytes (y ∷ d) (suc at) x hd hx (suc i) = set-bytes d at x (λ k. hd (suc k)) hx i
-
-pub sets-bytes : (d : List ℕ) (at : ℕ) (xs : List ℕ) → Bytes d → Bytes xs → Bytes (sets d at xs)
-sets-bytes d at [] hd hx = hd
-sets-bytes d at (x ∷ xs) hd hx = sets-bytes (set d at x) (suc at) xs (set-bytes d at x hd (hx 0)) (λ k. hx (suc k))
 
 -- ---- an amount moved: the row, and the others
 

@@ -2,11 +2,11 @@
 -- spaces that the program lends. Assumes nothing.
 use mathlib.Core.Path.{_≡_, refl, sym, ap, _∙_}
 use mathlib.Core.Logic.{⊎-elim}
-use mathlib.Core.Bool.{Bool, true, false, _&&_}
+use mathlib.Core.Bool.{Bool, true, false, _&&_, and-eq-true-iff}
 use mathlib.Core.List.{List}
 use Prim.Native.Nat.{ℕ, _+_, _*_, _≤_, _<_}
 use native.Mathlib.Omega.{arith}
-use lib.Dec.{leb}
+use lib.Dec.{leb, eqb}
 use lib.ListN.{length, take, length-take, length-drop}
 use lib.Seq.{take-all}
 use borrow.Author.Tests.{leb-true, eqb-true, eq-eqb, le-ltb}
@@ -21,7 +21,7 @@ use Rattle.judging.specs.declared.Refusal.the-variants.{Positions, Space}
 use Rattle.printing.specs.Lines.{refusalText}
 use Rattle.printing.specs.Response.{mostPart, lengthIn, fits, afterPart, tableOn, registerOn, sheetOn, inShape, callIn, anotherShape, response}
 use Rattle.printing.proofs.Reports.{sheet-length}
-use Rattle.printing.proofs.Shapes.{both-true, part-fits, zeros-length, response-else}
+use Rattle.printing.proofs.Shapes.{part-fits, zeros-length, response-else}
 
 -- ---- longer input
 
@@ -33,12 +33,12 @@ shape-short : (input : List ℕ) → inShape input ≡ true → length input ≤
 unfolding inShape
 shape-short input e =
     let two = fits (tableOn input) && fits (registerOn input) in
-    let all = both-true (two && fits (sheetOn input)) _ e in
-    let three = both-true two (fits (sheetOn input)) (all .0) in
-    let both = both-true (fits (tableOn input)) (fits (registerOn input)) (three .0) in
-    let table = leb-true (lengthIn (tableOn input)) mostPart (both-true _ (leb (4 + lengthIn (tableOn input)) (length (tableOn input))) (both .0) .0) in
-    let register = leb-true (lengthIn (registerOn input)) mostPart (both-true _ (leb (4 + lengthIn (registerOn input)) (length (registerOn input))) (both .1) .0) in
-    let sheet = leb-true (lengthIn (sheetOn input)) mostPart (both-true _ (leb (4 + lengthIn (sheetOn input)) (length (sheetOn input))) (three .1) .0) in
+    let all = and-eq-true-iff (two && fits (sheetOn input)) (eqb (length (afterPart (sheetOn input))) 0) .0 e in
+    let three = and-eq-true-iff two (fits (sheetOn input)) .0 (all .0) in
+    let both = and-eq-true-iff (fits (tableOn input)) (fits (registerOn input)) .0 (three .0) in
+    let table = leb-true (lengthIn (tableOn input)) mostPart (and-eq-true-iff (leb (lengthIn (tableOn input)) mostPart) (leb (4 + lengthIn (tableOn input)) (length (tableOn input))) .0 (both .0) .0) in
+    let register = leb-true (lengthIn (registerOn input)) mostPart (and-eq-true-iff (leb (lengthIn (registerOn input)) mostPart) (leb (4 + lengthIn (registerOn input)) (length (registerOn input))) .0 (both .1) .0) in
+    let sheet = leb-true (lengthIn (sheetOn input)) mostPart (and-eq-true-iff (leb (lengthIn (sheetOn input)) mostPart) (leb (4 + lengthIn (sheetOn input)) (length (sheetOn input))) .0 (three .1) .0) in
     let end = eqb-true (length (afterPart (sheetOn input))) 0 (all .1) in
     let a = length-drop 4 input in
     let b = length-drop (4 + lengthIn (tableOn input)) (tableOn input) in
@@ -76,7 +76,7 @@ pub report-fits : (input : List ℕ) → inShape input ≡ true → whole (callI
 unfolding inShape holds
 report-fits input e kept =
     let two = fits (tableOn input) && fits (registerOn input) in
-    let sheet = both-true two (fits (sheetOn input)) (both-true (two && fits (sheetOn input)) _ e .0) .1 in
+    let sheet = and-eq-true-iff two (fits (sheetOn input)) .0 (and-eq-true-iff (two && fits (sheetOn input)) (eqb (length (afterPart (sheetOn input))) 0) .0 e .0) .1 in
     let small = part-fits (sheetOn input) sheet in
     let long = zeros-length mostPart in
     let short = report-no-longer (callIn input .sheet) kept in

@@ -1,9 +1,9 @@
 -- The laws of the input and of the answer: parts read from their places, the spaces lent, and the text of each outcome.
 -- Assumes nothing.
 use mathlib.Core.Path.{_≡_, refl, sym, ap, _∙_}
-use mathlib.Core.Bool.{Bool, true, false, _&&_, false≢true}
+use mathlib.Core.Bool.{Bool, true, false, _&&_, and-eq-true-iff}
 use mathlib.Core.List.{List, _∷_}
-use Prim.Native.Nat.{ℕ, zero, suc, _+_, _-_, _*_, _≤_, _<_}
+use Prim.Native.Nat.{ℕ, zero, suc, _+_, _*_, _≤_}
 use native.Mathlib.Nat.{le-trans}
 use native.Mathlib.Omega.{arith}
 use lib.Dec.{leb, eqb, lit<, lit≤}
@@ -53,13 +53,9 @@ shape-read input table register sheet behind a b c et er es eb ea' eb' ec' = rw 
 
 -- ---- what the shape says of the parts
 
-pub both-true : (a b : Bool) → (a && b) ≡ true → (a ≡ true) × (b ≡ true)
-both-true true b e = (refl, e)
-both-true false b e = absurd (false≢true e)
-
 pub part-fits : (s : List ℕ) → fits s ≡ true → length (partIn s) ≤ mostPart
 part-fits s e =
-    let short : lengthIn s ≤ mostPart = leb-true (lengthIn s) mostPart (both-true _ _ e .0) in
+    let short : lengthIn s ≤ mostPart = leb-true (lengthIn s) mostPart (and-eq-true-iff (leb (lengthIn s) mostPart) (leb (4 + lengthIn s) (length s)) .0 e .0) in
     le-trans (part-short s 4 (lengthIn s)) short
 
 pub parts-fit : (input sheet table register : List ℕ) (told : Bool) → told ≡ inShape input → told ≡ true
@@ -67,9 +63,9 @@ pub parts-fit : (input sheet table register : List ℕ) (told : Bool) → told �
 unfolding inShape
 parts-fit input sheet table register told is e es et er =
     let two = fits (tableOn input) && fits (registerOn input) in
-    let three = both-true (two && fits (sheetOn input)) _ (sym is ∙ e) .0 in
-    let last = both-true two (fits (sheetOn input)) three in
-    let both = both-true (fits (tableOn input)) (fits (registerOn input)) (last .0) in
+    let three = and-eq-true-iff (two && fits (sheetOn input)) (eqb (length (afterPart (sheetOn input))) 0) .0 (sym is ∙ e) .0 in
+    let last = and-eq-true-iff two (fits (sheetOn input)) .0 three in
+    let both = and-eq-true-iff (fits (tableOn input)) (fits (registerOn input)) .0 (last .0) in
     record {
       sheetFits = rw es (part-fits (sheetOn input) (last .1));
       tableFits = rw et (part-fits (tableOn input) (both .0));

@@ -2,24 +2,14 @@
 -- are. Assumes nothing.
 use mathlib.Core.Path.{_≡_, refl, sym, ap, ap₂, _∙_}
 use mathlib.Core.List.{List, [], _∷_, _++_}
-use Prim.Native.Nat.{ℕ, zero, suc, _+_, _-_, _*_, _≤_, _<_}
+use Prim.Native.Nat.{ℕ, zero, suc, _+_, _-_, _*_, _≤_}
 use native.Mathlib.Nat.{add-zero, zero-add, suc-add, add-assoc}
 use native.Mathlib.Omega.{arith}
-use lib.ListN.{length, take, drop, length-append, length-drop}
-use lib.Seq.{drop-append-le, take-append-le, drop-append-add}
+use lib.ListN.{length}
 use Rattle.wire.specs.Field.{part, numberOf}
 use Rattle.wire.proofs.Texts.{part-length}
-use Rattle.sheet.specs.Sheet.{headerWidth, messageWidth, countAt, recordsAt, afterSection, Bulk, bulkAt, bulksFrom, messagesIn, endFrom, messagesFrom}
-use Rattle.sheet.proofs.Laws.{end-forward, end-next}
-
--- ---- a part of two lists one after the other
-
-pub part-front : (xs ys : List ℕ) (o n : ℕ) → o + n ≤ length xs → part (xs ++ ys) o n ≡ part xs o n
-part-front xs ys o n h =
-    ap (take n) (drop-append-le o xs ys (omega arith)) ∙ take-append-le n (drop o xs) ys (rw (length-drop o xs) (omega arith))
-
-pub part-back : (xs ys : List ℕ) (k o n : ℕ) → length xs ≡ k → part (xs ++ ys) (k + o) n ≡ part ys o n
-part-back xs ys k o n e = rw (← e) (ap (take n) (drop-append-add xs ys o))
+use Rattle.sheet.specs.Sheet.{headerWidth, messageWidth, countAt, recordsAt, afterSection, Bulk, bulkAt, bulksFrom, endFrom, messagesFrom}
+use Rattle.sheet.proofs.Laws.{end-forward}
 
 -- ---- two sheets that agree
 

@@ -1,24 +1,23 @@
 -- The cut, proved of the outcome that the judge is proved to compute. Assumes nothing.
-use mathlib.Core.Path.{_≡_, refl, sym, ap, ap₂, subst, _∙_}
+use mathlib.Core.Path.{_≡_, refl, sym, ap, ap₂, _∙_}
 use mathlib.Core.Bool.{true, false}
 use mathlib.Core.List.{List, _++_, map-append}
 use Prim.Native.Nat.{ℕ, _+_, _-_, _*_, _^_, _≤_, _<_}
-use native.Mathlib.Nat.{add-zero, zero-add}
 use native.Mathlib.Omega.{arith}
 use lib.ListN.{length, drop, length-drop}
 use lib.Seq.{take-all}
-use Rattle.wire.specs.Field.{part, bytesOf}
+use Rattle.wire.specs.Field.{part}
 use Rattle.sheet.specs.Sheet.{headerWidth, Bulk, bulkCount, messageCount, firstSection, bulksFrom, bulksOf, messagesFrom, messagesIn, endFrom, kindsKnown, mixed}
-use Rattle.sheet.proofs.Laws.{whole-facts, end-forward, bulks-length, bulks-messages}
+use Rattle.sheet.proofs.Laws.{whole-facts, end-forward}
 use Rattle.positions.proofs.Moves.{room-less}
 use Rattle.rules.specs.Facts.{mostCents}
 use Rattle.judging.specs.Judgement.{State, judgeBulks}
-use Rattle.judging.specs.Refusals.{Call, refusal}
+use Rattle.judging.specs.Refusals.{Call}
 use Rattle.judging.specs.Outcome.{Outcome, judgement, judgedOf, outcome}
 use Rattle.promises.specs.Reading.{InBytes, bulkLines, messageLines}
 use Rattle.promises.specs.Cut.{cutPlace, firstPart, secondPart, firstCall, secondCall, Enough, PartsMakeTheWhole, CutsAnywhere}
 use Rattle.promises.proofs.Bulks.{bulks-split, messages-split, end-split}
-use Rattle.promises.proofs.Clear.{Clear, clear-of, of-clear, number-is, outcome-judged, headers, known-parts, order-parts}
+use Rattle.judging.proofs.Clear.{Clear, clear-of, of-clear, number-is, outcome-judged, headers, known-parts, order-parts}
 use Rattle.promises.proofs.Fit.{Fit, bulks-fit}
 use Rattle.promises.proofs.Joined.{joins}
 use Rattle.promises.proofs.Lines.{bulk-lines-read, message-lines-read, bulk-number, message-number}

@@ -1,8 +1,8 @@
 -- The fields of the two kinds of line, read back. Assumes nothing.
-use mathlib.Core.Path.{_≡_, refl, sym, ap, _∙_}
+use mathlib.Core.Path.{_≡_, sym, ap, _∙_}
 use mathlib.Core.Bool.{Bool, true, false}
 use mathlib.Core.List.{List, [], _∷_, _++_}
-use Prim.Native.Nat.{ℕ, zero, suc, _+_, _*_, _%_, _^_, _≤_, _<_}
+use Prim.Native.Nat.{ℕ, _+_, _*_, _^_, _≤_, _<_}
 use native.Mathlib.Nat.{pow-zero, pow-suc, mod-eq-of-lt, add-zero}
 use native.Mathlib.Omega.{arith}
 use lib.ListN.{length, length-append}
@@ -10,9 +10,9 @@ use lib.Seq.{take-all}
 use Rattle.wire.specs.Field.{bit, part, numberOf, numberAt, bytesOf}
 use Rattle.wire.proofs.Numbers.{bytes-length, written-read}
 use Rattle.rules.specs.Facts.{mask}
-use Rattle.report.specs.Line.{lineHead, bulkLine, messageLine}
+use Rattle.report.specs.Line.{lineHead, bulkLine}
 use Rattle.report.specs.Tally.{Totals}
-use Rattle.promises.proofs.Bulks.{part-front, part-back}
+use Rattle.wire.proofs.Texts.{part-front, part-back}
 
 -- a mask of n facts has no bit from n on
 pub mask-below : (facts : List Bool) → mask facts < 2 ^ length facts

@@ -1,10 +1,10 @@
 -- The register keeps its form and the positions their room over a judgement: a message takes no more than one entry and the most
 -- cents, a bulk no more than one entry besides. Assumes nothing.
-use mathlib.Core.Path.{_≡_, refl, sym, ap, subst, _∙_}
-use mathlib.Core.Bool.{Bool, true, false, cond, not, _&&_, false≢true}
+use mathlib.Core.Path.{_≡_, refl, sym, _∙_}
+use mathlib.Core.Bool.{Bool, true, false, cond, not, _&&_, false≢true, and-eq-true-iff}
 use mathlib.Core.List.{List, [], _∷_}
 use mathlib.Core.Option.{Option, none, some}
-use Prim.Native.Nat.{ℕ, zero, suc, _+_, _-_, _*_, _/_, _%_, _^_, _≤_, _<_}
+use Prim.Native.Nat.{ℕ, suc, _+_, _*_, _^_, _≤_, _<_}
 use native.Mathlib.Nat.{zero-div}
 use native.Mathlib.Omega.{arith}
 use lib.Dec.{eqb, leb}
@@ -12,16 +12,15 @@ use lib.ListN.{length, getD}
 use borrow.Author.Tests.{eqb-true, leb-true, not-true, not-false}
 use Rattle.wire.specs.Field.{Bytes, bit, same}
 use Rattle.wire.proofs.Scans.{first-found}
-use Rattle.wire.proofs.Texts.{part-length}
-use Rattle.routing.specs.Table.{rows, kindAt}
+use Rattle.routing.specs.Table.{rows}
 use Rattle.routing.specs.Lookup.{rowOf, route, headOffice, isHeadOffice, orElse, reachable, bears}
 use Rattle.register.specs.Register.{entry, messageTag, bulkTag, used, room, free, stands, add}
 use Rattle.register.specs.Room.{Formed}
 use Rattle.register.proofs.Laws.{add-formed, free-add}
-use Rattle.positions.specs.Positions.{positionWidth, HasRow, roomForAll, gains, loses, pays}
+use Rattle.positions.specs.Positions.{positionWidth, HasRow, roomForAll, loses, pays}
 use Rattle.positions.proofs.Laws.{gains-length, loses-length, gains-bytes, loses-bytes}
 use Rattle.positions.proofs.Moves.{room-less, moved-room}
-use Rattle.sheet.specs.Sheet.{messageWidth, headerWidth, Bulk, senderOf, identifierOf, receiverOf, amountOf, bulkIdentifierOf, messagesIn}
+use Rattle.sheet.specs.Sheet.{Bulk, senderOf, identifierOf, receiverOf, amountOf, bulkIdentifierOf, messagesIn}
 use Rattle.rules.specs.Facts.{mask, mostCents, amountWrong, noParticipant, senderRow, bulkFacts, bulkFaults, messageFacts, messageFaults}
 use Rattle.rules.proofs.Bits.{mask-shows}
 use Rattle.judging.specs.Judgement.{State, isAccepted, sumOf, moved, faultsOf, afterAccepted, afterMessage, judgeMessages, faultsOfBulk, falls, messagesJudged, afterBulk, judgeBulks}
@@ -34,10 +33,6 @@ bit-zero false h = refl
 
 mask-zero : (facts : List Bool) (k : ℕ) → mask facts ≡ 0 → getD facts k false ≡ false
 mask-zero facts k e = bit-zero (getD facts k false) (sym (mask-shows facts k) ∙ (rw (e, zero-div (2 ^ k))))
-
-both-true : (a b : Bool) → (a && b) ≡ true → (a ≡ true) × (b ≡ true)
-both-true true b e = (refl, e)
-both-true false b e = absurd (false≢true e)
 
 -- ---- rows that are found are rows
 
@@ -80,7 +75,7 @@ module _ (date : ℕ) (table : List ℕ) where
   sends-row (some i) e = (i, refl)
 
   amount-small : (a : ℕ) → amountWrong a ≡ false → a ≤ mostCents
-  amount-small a e = leb-true a mostCents (both-true (leb 1 a) (leb a mostCents) (not-false (leb 1 a && leb a mostCents) e) .1)
+  amount-small a e = leb-true a mostCents (and-eq-true-iff (leb 1 a) (leb a mostCents) .0 (not-false (leb 1 a && leb a mostCents) e) .1)
 
   pub accepted-facts : (header message : List ℕ) (before : State) → faultsOf date table header message before ≡ 0 → Accepted header message before
   unfolding messageFaults
@@ -100,7 +95,7 @@ module _ (date : ℕ) (table : List ℕ) where
 
   pub verdict-facts : (fallen : Bool) (faults : ℕ) → isAccepted fallen faults ≡ true → (fallen ≡ false) × (faults ≡ 0)
   verdict-facts fallen faults e =
-      let both = both-true (not fallen) (eqb faults 0) e in
+      let both = and-eq-true-iff (not fallen) (eqb faults 0) .0 e in
       (not-true fallen (both .0), eqb-true faults 0 (both .1))
 
   pub after-accepted : (header : List ℕ) (fallen : Bool) (message : List ℕ) (before : State) → isAccepted fallen (faultsOf date table header message before) ≡ true

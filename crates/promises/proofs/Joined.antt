@@ -2,13 +2,13 @@
 use mathlib.Core.Path.{_≡_, refl, sym, ap, ap₂, _∙_}
 use mathlib.Core.Bool.{Bool}
 use mathlib.Core.List.{List, [], _∷_, _++_, append-assoc}
-use Prim.Native.Nat.{ℕ, suc, _+_, _*_, _≤_}
+use Prim.Native.Nat.{ℕ, _+_, _*_}
 use native.Mathlib.Omega.{arith}
 use lib.ListN.{length, length-append}
-use Rattle.wire.specs.Field.{part, bytesOf}
+use Rattle.wire.specs.Field.{bytesOf}
 use Rattle.wire.proofs.Numbers.{bytes-length}
 use Rattle.wire.proofs.Texts.{part-length}
-use Rattle.sheet.specs.Sheet.{headerWidth, messageWidth, Bulk, bulkIdentifierOf, identifierOf, messagesIn}
+use Rattle.sheet.specs.Sheet.{messageWidth, Bulk, bulkIdentifierOf, identifierOf, messagesIn}
 use Rattle.report.specs.Line.{messageLineWidth, bulkLineWidth}
 use Rattle.report.proofs.Laws.{message-line-length, bulk-line-length}
 use Rattle.judging.specs.Judgement.{State, lineOf, afterMessage, judgeMessages, falls, bulkLineOf, sectionOf, afterBulk, judgeBulks}

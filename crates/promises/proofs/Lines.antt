@@ -1,25 +1,24 @@
 -- What a caller reads in the report of a file that was judged: its lines are those of the judgement. Assumes nothing.
-use mathlib.Core.Path.{_≡_, refl, sym, ap, _∙_}
-use mathlib.Core.List.{List, [], _∷_, _++_}
-use Prim.Native.Nat.{ℕ, _+_, _-_, _*_, _%_, _^_, _≤_, _<_}
+use mathlib.Core.Path.{_≡_, sym, ap, _∙_}
+use mathlib.Core.List.{List, _++_}
+use Prim.Native.Nat.{ℕ, _+_, _-_, _*_, _≤_}
 use native.Mathlib.Nat.{add-zero, zero-add, mod-eq-of-lt}
 use native.Mathlib.Omega.{arith}
-use lib.ListN.{length, take, length-append}
-use lib.Seq.{sets, take-all, take-at, drop-at}
+use lib.ListN.{length, length-append}
+use lib.Seq.{take-all}
 use Rattle.wire.specs.Field.{part, numberOf, bytesOf}
 use Rattle.wire.proofs.Numbers.{bytes-length, written-read}
 use Rattle.wire.proofs.Stores.{part-stored}
-use Rattle.sheet.specs.Sheet.{bulkCount, messageCount, firstSection, bulksOf, bulksFrom, messagesIn}
+use Rattle.sheet.specs.Sheet.{bulkCount, messageCount, firstSection, bulksOf, messagesIn}
 use Rattle.sheet.proofs.Laws.{whole-facts, bulks-length, bulks-messages}
-use Rattle.sheet.proofs.Fields.{part-part}
 use Rattle.report.specs.Line.{bulkLineWidth, messageLineWidth, reportLength}
-use Rattle.judging.specs.Judgement.{State, judgeBulks}
 use Rattle.judging.specs.Refusals.{Call}
 use Rattle.judging.specs.Outcome.{Outcome, judgement, reportOf, judgedOf}
 use Rattle.promises.specs.Reading.{lineCount, afterBulkLines, bulkLines, messageLines}
-use Rattle.promises.proofs.Bulks.{part-front, part-back, AllShaped, bulks-shaped}
-use Rattle.promises.proofs.Clear.{Clear}
+use Rattle.promises.proofs.Bulks.{AllShaped, bulks-shaped}
+use Rattle.judging.proofs.Clear.{Clear}
 use Rattle.promises.proofs.Joined.{bulk-lines-wide, sections-wide}
+use Rattle.wire.proofs.Texts.{part-part, part-front, part-back}
 
 module _ (call : Call) (clear : Clear call) where
   abbrev b : ℕ

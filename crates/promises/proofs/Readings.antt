@@ -20,7 +20,9 @@ use Rattle.routing.specs.declared.Refusal.the-variants.{Date as BadDate, Table 
 use Rattle.routing.specs.declared.Answer.{Answer as RoutingAnswer}
 use Rattle.routing.specs.declared.Answer.the-variants.{Refused as TurnedAway, Missing, Row}
 use Rattle.sheet.specs.Reading.{CountRead, HeaderRead, MessageRead, shapeOf}
+use Rattle.printing.specs.Writing.{Answered}
 use Rattle.sheet.specs.declared.Counted.{Counted}
+use Rattle.sheet.specs.declared.Cursor.{Cursor}
 use Rattle.sheet.specs.declared.Header.{Header}
 use Rattle.sheet.specs.declared.Message.{Message}
 use Rattle.sheet.specs.declared.Shape.{Shape}
@@ -112,6 +114,9 @@ answer-one : {x y : Answer} → answerNumber x ≡ answerNumber y → answerLeng
 answer-one {x} {y} e e' = sym (answer-back x) ∙ (λ i. answerFrom (e i) (e' i)) ∙ answer-back y
 
 -- ---- a struct is its fields
+
+pub place-one : {n : ℕ} {x y : Cursor} → x .at ≡ n → y .at ≡ n → x ≡ y
+place-one p q = λ i. record { at = (p ∙ sym q) i }
 
 pub count-one : {s : List ℕ} {at : ℕ} {x y : Counted} → CountRead s at x → CountRead s at y → x ≡ y
 count-one p q = λ i. record { count = (p .count ∙ sym (q .count)) i; next = record { at = (p .moved ∙ sym (q .moved)) i } }
@@ -217,6 +222,15 @@ module _ (ws ws' : Left) where
     λ i. record { number = e i .number; length = e i .length },
     left-one {ws = ws} {ws' = ws'} (λ i. e i .register) (λ i. e i .positions) (λ i. e i .report),
   )
+
+-- ---- a printed answer: how many bytes were written, and the buffer
+
+module _ {before after after' text : List ℕ} {n n' : ℕ} where
+  pub written-one : Answered before after n text → Answered before after' n' text → n ≡ n'
+  written-one p q = p .printed .place ∙ sym (q .printed .place)
+
+  pub printed-one : Answered before after n text → Answered before after' n' text → after ≡ after'
+  printed-one p q = p .printed .bytes ∙ sym (q .printed .bytes)
 
 -- ---- the route that the door for C hands over is the four values of the lookup
 pub way-one : {e : Routed} {x y : TynderaxoRoute} → routedBy x ≡ e → routedBy y ≡ e → x ≡ y

@@ -3,8 +3,7 @@
 use mathlib.Core.Path.{_≡_, refl, sym, ap, ap₂, subst, _∙_}
 use mathlib.Core.Bool.{Bool, true, false, cond}
 use mathlib.Core.List.{List, [], _∷_, _++_, append-nil}
-use mathlib.Core.Option.{some}
-use Prim.Native.Nat.{ℕ, zero, suc, _+_, _-_, _*_, _≤_, _<_}
+use Prim.Native.Nat.{ℕ, suc, _+_, _*_, _<_}
 use native.Mathlib.Nat.{add-zero, zero-mul, zero-add}
 use native.Mathlib.Decide.{ℕ-discrete}
 use native.Mathlib.Omega.{arith}
@@ -12,23 +11,22 @@ use lib.Dec.{eqb}
 use lib.IntN.{ℤ, pos, negℤ, _+ℤ_, _-ℤ_, +ℤ-assoc, +ℤ-comm}
 use lib.ListN.{length, length-append}
 use Rattle.wire.specs.Field.{Bytes, numberAt, numberFrom, numberOf}
-use Rattle.wire.proofs.Texts.{part-length}
-use Rattle.routing.specs.Table.{rows}
-use Rattle.routing.specs.Lookup.{route, rowOf, headOffice}
-use Rattle.register.specs.Register.{entry, messageTag, bulkTag, tagPlace, entryWidth, used, room, entriesTo, entriesOf, inUse, listed, add}
+use Rattle.wire.proofs.Texts.{part-length, part-back}
+use Rattle.routing.specs.Lookup.{headOffice}
+use Rattle.register.specs.Register.{entry, messageTag, bulkTag, tagPlace, used, room, entriesTo, entriesOf, inUse, add}
 use Rattle.register.specs.Room.{Parts}
 use Rattle.register.proofs.Laws.{entry-length, entries-add, stands-listed}
-use Rattle.positions.specs.Positions.{positionAt, signed, pays}
+use Rattle.positions.specs.Positions.{positionAt, signed}
 use Rattle.positions.proofs.Moves.{share, moved-exact, room-less}
-use Rattle.sheet.specs.Sheet.{headerWidth, messageWidth, Bulk, bulksOf, bulkCount, messageCount, messagesIn, senderOf, identifierOf, receiverOf, amountOf, bulkIdentifierOf}
-use Rattle.rules.specs.Facts.{mostCents, senderRow}
+use Rattle.sheet.specs.Sheet.{headerWidth, messageWidth, Bulk, bulksOf, messageCount, messagesIn, senderOf, identifierOf, receiverOf, amountOf, bulkIdentifierOf}
+use Rattle.rules.specs.Facts.{mostCents}
 use Rattle.judging.specs.Judgement.{State, isAccepted, faultsOf, afterAccepted, afterMessage, judgeMessages, falls, messagesJudged, afterBulk, judgeBulks}
 use Rattle.judging.specs.Refusals.{Call, refusal}
-use Rattle.judging.specs.Outcome.{Outcome, judgement, outcome}
+use Rattle.judging.specs.Outcome.{outcome}
 use Rattle.promises.specs.Reading.{Payment, paymentOf, accepted}
-use Rattle.promises.specs.Runs.{File, Ran, callOn, leftBy, run, entryOf, withMessageTag, messageEntries, centsTo, centsFrom, RunHolds, RunsAsPromised}
-use Rattle.promises.proofs.Bulks.{part-back, AllWide, Shaped, AllShaped}
-use Rattle.promises.proofs.Clear.{Clear, clear-of, outcome-judged, outcome-refused}
+use Rattle.promises.specs.Runs.{File, callOn, leftBy, run, withMessageTag, messageEntries, centsTo, centsFrom, RunsAsPromised}
+use Rattle.promises.proofs.Bulks.{AllWide, Shaped, AllShaped}
+use Rattle.judging.proofs.Clear.{Clear, clear-of, outcome-judged, outcome-refused}
 use Rattle.promises.proofs.Fit.{Sends, Accepted, Fit, row-below, route-below, has-row, accepted-facts, sends-facts, verdict-facts, after-accepted, after-rejected, moved-pays, fit-less, message-fit, messages-fit, bulk-fit, bulks-fit}
 use Rattle.promises.proofs.Lines.{shaped, bulk-number, message-number}
 use Rattle.promises.proofs.Said.{paid, paidBy, said-judged, said-refused}

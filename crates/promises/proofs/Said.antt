@@ -2,8 +2,8 @@
 use mathlib.Core.Path.{_≡_, refl, sym, ap, ap₂, _∙_}
 use mathlib.Core.Bool.{Bool, true, false, cond, not, _&&_}
 use mathlib.Core.List.{List, [], _∷_, _++_}
-use Prim.Native.Nat.{ℕ, zero, suc, _+_, _-_, _*_, _%_, _≤_}
-use native.Mathlib.Nat.{add-zero, add-assoc}
+use Prim.Native.Nat.{ℕ, _+_, _*_, _%_, _≤_}
+use native.Mathlib.Nat.{add-assoc}
 use native.Mathlib.Omega.{arith}
 use lib.Dec.{eqb}
 use borrow.Author.Tests.{ne-eqb}
@@ -11,16 +11,16 @@ use lib.ListN.{length, length-append}
 use lib.Seq.{take-all}
 use Rattle.wire.specs.Field.{part, numberOf, bytesOf}
 use Rattle.wire.proofs.Numbers.{bytes-length, written-read}
-use Rattle.wire.proofs.Texts.{part-length}
-use Rattle.sheet.specs.Sheet.{messageWidth, Bulk, bulkCount, messageCount, bulksOf, messagesIn, identifierOf}
+use Rattle.wire.proofs.Texts.{part-length, part-front, part-back}
+use Rattle.sheet.specs.Sheet.{messageWidth, Bulk, bulkCount, messageCount, bulksOf, identifierOf}
 use Rattle.report.specs.Line.{messageLine, messageLineWidth, lineHead}
 use Rattle.judging.specs.Judgement.{State, isAccepted, messageOutcome, faultsOf, lineOf, afterMessage, judgeMessages, falls, messagesJudged, sectionOf, afterBulk, judgeBulks}
 use Rattle.judging.specs.Refusals.{Call, refusal}
-use Rattle.judging.specs.Outcome.{Outcome, judgement, judgedOf, outcome}
+use Rattle.judging.specs.Outcome.{judgement, judgedOf, outcome}
 use Rattle.promises.specs.Reading.{Payment, paymentOf, saysAccepted, acceptedOf, acceptedFrom, accepted, afterBulkLines}
-use Rattle.promises.proofs.Bulks.{part-front, part-back, AllWide, Shaped, AllShaped}
-use Rattle.promises.proofs.Clear.{Clear, clear-of, outcome-judged, outcome-refused}
-use Rattle.promises.proofs.Joined.{line-wide, message-lines-wide, section-wide, sections-wide}
+use Rattle.promises.proofs.Bulks.{AllWide, AllShaped}
+use Rattle.judging.proofs.Clear.{clear-of, outcome-judged, outcome-refused}
+use Rattle.promises.proofs.Joined.{line-wide, section-wide, sections-wide}
 use Rattle.promises.proofs.Lines.{shaped, bulk-number, message-number, sections-read}
 
 -- the text of n bytes stands in the report from place at on

@@ -1,6 +1,6 @@
 -- Each wrong judge is shut out by a statement: were the statement true of it, 0 would be 1. Assumes nothing.
-use mathlib.Core.Path.{_≡_, refl, sym, ap, _∙_}
-use mathlib.Core.Bool.{Bool, true, false, _&&_, false≢true}
+use mathlib.Core.Path.{_≡_, refl, sym, ap}
+use mathlib.Core.Bool.{Bool, true, _&&_, and-eq-true-iff}
 use mathlib.Core.List.{List, [], _∷_, _++_}
 use Prim.Native.Nat.{ℕ, zero, suc, _-_, _/_}
 use Prim.Native.String.{String}
@@ -22,11 +22,10 @@ use Rattle.rules.specs.Facts.{mask, bulkFaults, messageFaults}
 use Rattle.report.specs.Line.{bulkLine, messageLine}
 use Rattle.judging.specs.Judgement.{State, sumOf, afterMessage, lineOf, counted, judgeMessages, bulkLineOf, sectionOf, afterBulk, judgeBulks}
 use Rattle.judging.specs.Refusals.{Call, holds, firstHolding, refusal}
-use Rattle.judging.specs.Outcome.{Outcome, outcome}
+use Rattle.judging.specs.Outcome.{outcome}
 use Rattle.promises.specs.Reading.{InBytes, acceptedOf, acceptedFrom, accepted}
-use Rattle.promises.specs.Cut.{CutsAnywhere}
-use Rattle.promises.specs.Demands.{RefusesAsWritten, EveryLineTells, BulksTell, MessagesTell, centsOf}
-use Rattle.promises.specs.Runs.{File, run, NoneLike, NoneTwice, withMessageTag, AllStand, centsTo, centsFrom, RunsAsPromised}
+use Rattle.promises.specs.Demands.{BulksTell, MessagesTell, centsOf}
+use Rattle.promises.specs.Runs.{File, run, NoneLike, NoneTwice, withMessageTag, AllStand, centsTo, centsFrom}
 use Rattle.promises.specs.Edges.{padded, row}
 use Rattle.promises.specs.Wrong.{refusesAll, writesOnRefusal, oneFixedReport, writesNothing, copiesTheFirstLine, makesUpTheNumber, hidesBesideARepeat, dropsALine, copiesTheFirstFile, recordsTheFallen, recordsNothing, movesTheStatedSum, ShutOut}
 
@@ -36,15 +35,11 @@ unfoldable allBytes : List ℕ → Bool
 allBytes [] = true
 allBytes (x ∷ xs) = ltb x 256 && allBytes xs
 
-both-true : (a b : Bool) → (a && b) ≡ true → (a ≡ true) × (b ≡ true)
-both-true true b e = (refl, e)
-both-true false b e = absurd (false≢true e)
-
 bytes-by : (s : List ℕ) → allBytes s ≡ true → Bytes s
 unfolding allBytes
 bytes-by [] e i = lit< tt
-bytes-by (x ∷ xs) e zero = ltb-true x 256 (both-true (ltb x 256) (allBytes xs) e .0)
-bytes-by (x ∷ xs) e (suc i) = bytes-by xs (both-true (ltb x 256) (allBytes xs) e .1) i
+bytes-by (x ∷ xs) e zero = ltb-true x 256 (and-eq-true-iff (ltb x 256) (allBytes xs) .0 e .0)
+bytes-by (x ∷ xs) e (suc i) = bytes-by xs (and-eq-true-iff (ltb x 256) (allBytes xs) .0 e .1) i
 
 -- ---- the cases: payments from AAAALV22 to BBBBLV22
 

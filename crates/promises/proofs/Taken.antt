@@ -1,20 +1,18 @@
 -- A sheet made of some headers of another and their sections: it is whole, and holds those bulks. Assumes nothing.
-use mathlib.Core.Path.{_≡_, refl, sym, ap, _∙_}
+use mathlib.Core.Path.{_≡_, sym, ap, _∙_}
 use mathlib.Core.Bool.{true}
 use mathlib.Core.List.{List, _++_}
-use Prim.Native.Nat.{ℕ, _+_, _-_, _*_, _%_, _^_, _≤_, _<_}
-use native.Mathlib.Nat.{add-zero, add-assoc, mod-eq-of-lt}
+use Prim.Native.Nat.{ℕ, _+_, _*_, _^_, _≤_, _<_}
+use native.Mathlib.Nat.{mod-eq-of-lt}
 use native.Mathlib.Omega.{arith}
-use lib.Dec.{lit≤}
-use lib.ListN.{length, drop, length-append, length-drop}
+use lib.ListN.{length, length-append}
 use lib.Seq.{take-all}
 use Rattle.wire.specs.Field.{part, numberOf, bytesOf}
 use Rattle.wire.proofs.Numbers.{bytes-length, written-read}
-use Rattle.wire.proofs.Texts.{part-length}
-use Rattle.sheet.specs.Sheet.{headerWidth, bulkCount, messageCount, firstSection, bulksFrom, bulksOf, messagesFrom, endFrom, whole}
+use Rattle.wire.proofs.Texts.{part-length, part-part, part-front, part-back}
+use Rattle.sheet.specs.Sheet.{headerWidth, bulkCount, messageCount, bulksFrom, bulksOf, messagesFrom, endFrom, whole}
 use Rattle.sheet.proofs.Laws.{whole-ended}
-use Rattle.sheet.proofs.Fields.{part-part}
-use Rattle.promises.proofs.Bulks.{part-front, part-back, bulks-agree}
+use Rattle.promises.proofs.Bulks.{bulks-agree}
 
 -- n headers from place head on, and the k bytes of their sections from place at on
 abbrev pub taken : List ℕ → ℕ → ℕ → ℕ → ℕ → List ℕ

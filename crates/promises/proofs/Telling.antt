@@ -1,33 +1,33 @@
 -- The first two demands, proved of the outcome that the judge is proved to compute. Assumes nothing.
-use mathlib.Core.Path.{_≡_, refl, sym, ap, ap₂, subst, _∙_}
+use mathlib.Core.Path.{_≡_, refl, sym, ap, subst, _∙_}
 use mathlib.Core.Bool.{Bool, true, false, cond}
-use mathlib.Core.List.{List, [], _∷_, _++_}
-use Prim.Native.Nat.{ℕ, zero, suc, _+_, _-_, _*_, _/_, _%_, _^_, _≤_, _<_}
+use mathlib.Core.List.{List, [], _∷_}
+use Prim.Native.Nat.{ℕ, zero, suc, _+_, _*_, _/_, _%_, _^_, _≤_, _<_}
 use native.Mathlib.Nat.{add-zero, mod-eq-of-lt}
 use native.Mathlib.Omega.{arith}
 use lib.Dec.{eqb}
-use lib.ListN.{length, length-append, getD}
+use lib.ListN.{length}
 use lib.Seq.{take-all}
-use Rattle.wire.specs.Field.{Bytes, bit, part, numberOf, numberAt, bytesOf}
-use Rattle.wire.proofs.Numbers.{bytes-length, written-read, number-below}
-use Rattle.wire.proofs.Texts.{part-length, part-bytes}
-use Rattle.sheet.specs.Sheet.{headerWidth, messageWidth, recordsAt, Bulk, bulksOf, bulksFrom, bulkCount, messageCount, firstSection, countAt, afterSection, messagesIn, identifierOf, bulkIdentifierOf, amountOf}
-use Rattle.rules.specs.Facts.{mask, mostCents, messageFacts, messageFaults, bulkFacts, bulkFaults}
-use Rattle.report.specs.Line.{messageLine, bulkLine, messageLineWidth, bulkLineWidth, reportLength}
+use Rattle.wire.specs.Field.{Bytes, part, numberOf, numberAt, bytesOf}
+use Rattle.wire.proofs.Numbers.{bytes-length, written-read}
+use Rattle.wire.proofs.Texts.{part-length}
+use Rattle.sheet.specs.Sheet.{headerWidth, messageWidth, recordsAt, Bulk, bulksOf, bulksFrom, bulkCount, firstSection, countAt, afterSection, messagesIn, identifierOf, bulkIdentifierOf, amountOf}
+use Rattle.rules.specs.Facts.{mostCents, messageFacts, messageFaults, bulkFacts, bulkFaults}
+use Rattle.report.specs.Line.{messageLine, messageLineWidth, bulkLineWidth}
 use Rattle.report.specs.Tally.{Totals, withAccepted, withRejected}
 use Rattle.judging.specs.Judgement.{State, isAccepted, messageOutcome, bulkOutcome, sumOf, faultsOf, faultsOfBulk, lineOf, counted, afterMessage, judgeMessages, falls, messagesJudged, bulkLineOf, sectionOf, afterBulk, judgeBulks}
-use Rattle.judging.specs.Refusals.{Call, refusal}
-use Rattle.judging.specs.Outcome.{Outcome, judgement, judgedOf, outcome}
+use Rattle.judging.specs.Refusals.{refusal}
+use Rattle.judging.specs.Outcome.{judgement, judgedOf, outcome}
 use Rattle.judging.proofs.Amounts.{amount-word}
 use Rattle.judging.proofs.Demands.{numbers-add-up, cents-add-up, bulk-shows, message-shows}
-use Rattle.promises.specs.Reading.{InBytes, Payment, paymentOf, acceptedOf, afterBulkLines}
-use Rattle.promises.specs.Demands.{Untouched, Refuses, RefusesAsWritten, Shows, totalsAt, centsOf, MessageTells, MessagesTell, BulkTells, BulksTell, LinesTell, EveryLineTells}
-use Rattle.promises.proofs.Bulks.{part-front, part-back, AllWide, Shaped, AllShaped}
-use Rattle.promises.proofs.Clear.{Clear, clear-of, number-is, outcome-judged, outcome-refused}
+use Rattle.promises.specs.Reading.{Payment, paymentOf, afterBulkLines}
+use Rattle.promises.specs.Demands.{RefusesAsWritten, totalsAt, centsOf, MessageTells, MessagesTell, BulkTells, BulksTell, EveryLineTells}
+use Rattle.promises.proofs.Bulks.{AllWide, Shaped, AllShaped}
+use Rattle.judging.proofs.Clear.{clear-of, number-is, outcome-judged, outcome-refused}
 use Rattle.promises.proofs.Fields.{mask-below, head-identifier, head-outcome, head-faults, head-length, BulkLineRead, bulk-line-read}
-use Rattle.promises.proofs.Fit.{Accepted, accepted-facts, verdict-facts}
-use Rattle.promises.proofs.Joined.{line-wide, message-lines-wide, section-wide, bulk-line-wide, bulk-lines-wide, sections-wide}
-use Rattle.promises.proofs.Lines.{shaped, bulk-number, message-number, count-read, lines-read, sections-read}
+use Rattle.promises.proofs.Fit.{accepted-facts, verdict-facts}
+use Rattle.promises.proofs.Joined.{line-wide, section-wide, bulk-line-wide}
+use Rattle.promises.proofs.Lines.{shaped, message-number, count-read, lines-read, sections-read}
 use Rattle.promises.proofs.Said.{Stands, stands-front, stands-back, paid, said-messages}
 
 -- ---- demand 1

@@ -1,21 +1,20 @@
 -- Payments kept track of from one state to another: what they add to the register, what they move, and that none was there before.
 -- Assumes nothing.
 use mathlib.Core.Path.{_≡_, refl, sym, ap, ap₂, _∙_}
-use mathlib.Core.Bool.{Bool, true, false, cond, _||_, false≢true, or-assoc, or-true, or-false}
+use mathlib.Core.Bool.{Bool, true, false, cond, _||_, false≢true, or-assoc, or-true}
 use mathlib.Core.List.{List, [], _∷_, _++_, map, map-append, append-assoc, append-nil}
-use Prim.Native.Nat.{ℕ, zero, suc, _+_}
-use native.Mathlib.Nat.{zero-add, add-assoc, add-zero}
-use native.Mathlib.Omega.{arith}
+use Prim.Native.Nat.{ℕ, _+_}
+use native.Mathlib.Nat.{zero-add, add-assoc}
 use lib.Dec.{eqb}
 use lib.IntN.{ℤ, pos, negℤ, _+ℤ_, _-ℤ_, +ℤ-assoc, +ℤ-comm, +ℤ-idr, pos-+ℤ-pos, negℤ-+ℤ}
 use Rattle.wire.specs.Field.{same, numberAt}
-use Rattle.wire.proofs.Texts.{same-itself, same-equal}
+use Rattle.wire.proofs.Texts.{same-itself}
 use Rattle.register.specs.Register.{entry, messageTag, tagPlace, entriesOf, listed, stands}
 use Rattle.register.proofs.Laws.{stands-listed}
 use Rattle.positions.specs.Positions.{positionAt, signed}
 use Rattle.judging.specs.Judgement.{State}
 use Rattle.promises.specs.Reading.{Payment}
-use Rattle.promises.specs.Runs.{SamePayment, NoneLike, NoneTwice, entryOf, withMessageTag, messageEntries, AllStand, isRow, toRow, fromRow, centsTo, centsFrom}
+use Rattle.promises.specs.Runs.{SamePayment, NoneLike, NoneTwice, entryOf, withMessageTag, messageEntries, AllStand, toRow, fromRow, centsTo, centsFrom}
 
 -- ---- cents add up
 
@@ -97,10 +96,6 @@ unfolding Fresh
 fresh-append es [] qs f g = rw (append-nil es) at g
 fresh-append es (p ∷ ps) qs f g =
     (f .0, fresh-append (es ++ (entryOf p ∷ [])) ps qs (f .1) (rw (append-assoc es (entryOf p ∷ []) (map entryOf ps)) g))
-
-or-false-parts : (a b : Bool) → (a || b) ≡ false → (a ≡ false) × (b ≡ false)
-or-false-parts true b e = absurd (false≢true (sym e))
-or-false-parts false b e = (refl, e)
 
 -- so none of them is like another
 none-like : (es : List (List ℕ)) (p : Payment) (ps : List Payment) → listed es (entryOf p) ≡ true → Fresh es ps → NoneLike p ps

@@ -1,5 +1,5 @@
 -- The values at the edges that the scope marks for proof: calls, what of their outcome is looked at, and what it must be. Assumes nothing.
-use Prim.Native.Nat.{ℕ, _+_, _-_}
+use Prim.Native.Nat.{ℕ, _-_}
 use Prim.Native.String.{String}
 use mathlib.Core.List.{List, [], _∷_, _++_}
 use lib.ListN.{length, replicate}

@@ -5,14 +5,13 @@ use mathlib.Core.Bool.{Bool, true, false, cond}
 use mathlib.Core.List.{List, [], _∷_, _++_, map}
 use mathlib.Core.Option.{Option, none, some}
 use lib.Dec.{eqb}
-use lib.IntN.{ℤ, pos, _+ℤ_, _-ℤ_}
+use lib.IntN.{pos, _+ℤ_, _-ℤ_}
 use Rattle.wire.specs.Field.{Bytes, numberAt}
 use Rattle.routing.specs.Lookup.{rowOf, headOffice, route}
 use Rattle.register.specs.Register.{entry, messageTag, tagPlace, used, entriesOf, stands}
 use Rattle.positions.specs.Positions.{positionAt, signed}
 use Rattle.judging.specs.Judgement.{State}
 use Rattle.judging.specs.Refusals.{Call}
-use Rattle.judging.specs.Outcome.{Outcome}
 use Rattle.promises.specs.Reading.{Judge, Payment, accepted}
 
 -- ---- a run

@@ -1,6 +1,6 @@
 -- Judges that must be shut out, each the right one but for what its name says. Assumes nothing.
-use Prim.Native.Nat.{ℕ, _+_, _-_, _*_}
-use mathlib.Core.Bool.{Bool, cond, _&&_}
+use Prim.Native.Nat.{ℕ, _+_}
+use mathlib.Core.Bool.{cond}
 use mathlib.Core.List.{List, [], _∷_, _++_}
 use lib.ListN.{length, getD}
 use lib.Seq.{sets}
@@ -10,7 +10,7 @@ use Rattle.routing.specs.Lookup.{route}
 use Rattle.sheet.specs.Sheet.{Bulk, bulksOf, bulkCount, senderOf, identifierOf, receiverOf, statedSumOf}
 use Rattle.register.specs.Register.{entry, messageTag, used, add}
 use Rattle.rules.specs.Facts.{senderRow}
-use Rattle.report.specs.Line.{bulkLineWidth, messageLineWidth}
+use Rattle.report.specs.Line.{bulkLineWidth}
 use Rattle.judging.specs.Judgement.{moved}
 use Rattle.judging.specs.Refusals.{Call}
 use Rattle.judging.specs.Outcome.{Outcome, turnedAway, outcome}

@@ -1,16 +1,15 @@
 -- The laws of the report that the crates above cite, and those that the proofs here share. Assumes nothing.
-use mathlib.Core.Path.{_≡_, refl, sym, ap, _∙_}
-use mathlib.Core.List.{List, [], _∷_, _++_, append-nil}
-use Prim.Native.Nat.{ℕ, suc, _+_, _-_, _*_, _^_, _≤_, _<_}
-use native.Mathlib.Nat.{le-trans, le-of-mul-le-mul-right, mul-le-mul-right, add-suc}
+use mathlib.Core.Path.{_≡_, refl, sym}
+use mathlib.Core.List.{List, _++_}
+use Prim.Native.Nat.{ℕ, suc, _+_, _*_, _^_, _≤_, _<_}
+use native.Mathlib.Nat.{le-trans, le-of-mul-le-mul-right, mul-le-mul-right}
 use native.Mathlib.Omega.{arith}
 use lib.Dec.{lit<, lit≤}
-use lib.ListN.{length, take, drop, set, length-append, length-drop, take-append-drop, drop-of-length-le}
-use lib.Seq.{sets, set-comm, take-all, take-set-le, drop-set-add}
-use borrow.Rule.Slice.PartMut.{midOf, putMid}
+use lib.ListN.{length, length-append}
+use lib.Seq.{sets}
 use Rattle.wire.specs.Field.{bytesOf}
 use Rattle.wire.proofs.Numbers.{bytes-length, bytes-split}
-use Rattle.wire.proofs.Stores.{sets-append}
+use Rattle.wire.proofs.Stores.{sets-then}
 use Rattle.report.specs.Tally.{Totals, nothing, withAccepted, withRejected}
 use Rattle.report.specs.Room.{Room, Within, mostCounted}
 use Rattle.report.specs.Line.{lineHead, bulkLine, messageLine, lineHeadWidth, bulkLineWidth, messageLineWidth}
@@ -52,38 +51,6 @@ within-accepted n t amount small w = record { counted = omega arith; acceptedSma
 
 pub within-rejected : (n : ℕ) (t : Totals) (amount : ℕ) → amount < 2 ^ 64 → Within n t → Within (n + 1) (withRejected t amount)
 within-rejected n t amount small w = record { counted = omega arith; acceptedSmall = omega arith; rejectedSmall = omega arith }
-
--- ---- runs of stores
-
--- a run that goes on where another of n stores ended
-pub sets-then : (d : List ℕ) (at n : ℕ) (xs ys : List ℕ) → length xs ≡ n → sets (sets d at xs) (at + n) ys ≡ sets d at (xs ++ ys)
-sets-then d at n xs ys e = rw (← e) (sym (sets-append d at xs ys))
-
-set-swap : (d : List ℕ) (a x b : ℕ) (ys : List ℕ) → a < b → sets (set d a x) b ys ≡ set (sets d b ys) a x
-set-swap d a x b [] h = refl
-set-swap d a x b (y ∷ ys) h =
-    ap (λ (l : List ℕ). sets l (suc b) ys) (set-comm d a b x y (omega arith)) ∙ set-swap (set d b y) a x (suc b) ys (omega arith)
-
--- runs into two ranges that do not meet may change places
-pub sets-swap : (d : List ℕ) (a : ℕ) (xs : List ℕ) (b : ℕ) (ys : List ℕ) → a + length xs ≤ b
-    → sets (sets d a xs) b ys ≡ sets (sets d b ys) a xs
-sets-swap d a [] b ys h = refl
-sets-swap d a (x ∷ xs) b ys h =
-    sets-swap (set d a x) (suc a) xs b ys (omega arith)
-    ∙ ap (λ (l : List ℕ). sets l (suc a) xs) (set-swap d a x b ys (omega arith))
-
-behind : (o : List ℕ) (at k : ℕ) (vs : List ℕ) → take at o ++ sets (drop at o) k vs ≡ sets o (at + k) vs
-behind o at k [] = take-append-drop at o
-behind o at k (v ∷ vs) =
-    rw (← (drop-set-add at o k v), ← (take-set-le at o (at + k) v (omega arith)), ← (add-suc at k))
-    (behind (set o (at + k) v) at (suc k) vs)
-
--- the part from a place on was lent, and comes back after a run of stores: the run stands in the whole, that much further on
-pub middle-lent : (o : List ℕ) (at k to : ℕ) (vs back : List ℕ) → to ≡ at + k → back ≡ sets (midOf at (length o - at) o) k vs
-    → putMid at (length o - at) o back ≡ sets o to vs
-middle-lent o at k to vs back place e =
-    let all : length (drop at o) ≤ length o - at = rw (length-drop at o) (omega arith) in
-    rw (place, e, take-all (length o - at) (drop at o) all, drop-of-length-le (drop at o) all, append-nil) (behind o at k vs)
 
 -- ---- the lines
 

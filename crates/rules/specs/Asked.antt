@@ -2,7 +2,6 @@
 use Prim.Native.Nat.{ℕ, _+_, _*_, _^_, _≤_}
 use mathlib.Core.Path.{_≡_}
 use mathlib.Core.List.{List}
-use mathlib.Core.Option.{Option}
 use lib.ListN.{length}
 use Rattle.wire.specs.Field.{part}
 use Rattle.wire.specs.declared.Halves.{Halves}

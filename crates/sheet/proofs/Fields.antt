@@ -1,30 +1,14 @@
 -- The laws of fields: each stands in the sheet where it stands in its record, and has its width there. Assumes nothing.
 use mathlib.Core.Path.{_≡_, sym, ap, _∙_}
-use mathlib.Core.List.{List, [], _∷_}
-use Prim.Native.Nat.{ℕ, zero, suc, _+_, _-_, _≤_}
-use native.Mathlib.Nat.{add-zero, zero-add}
+use mathlib.Core.List.{List}
+use Prim.Native.Nat.{ℕ, _+_, _≤_}
+use native.Mathlib.Nat.{add-zero}
 use native.Mathlib.Omega.{arith}
 use lib.Dec.{lit≤}
-use lib.ListN.{length, take, drop}
-use lib.Seq.{take-take, drop-drop, take-nil}
+use lib.ListN.{length}
 use Rattle.wire.specs.Field.{part, numberOf, numberAt}
-use Rattle.wire.proofs.Texts.{part-length}
+use Rattle.wire.proofs.Texts.{part-length, part-part}
 use Rattle.sheet.specs.Sheet.{headerWidth, kindOf, bulkIdentifierOf, senderOf, statedNumberOf, statedSumOf, valueDateOf, marksOf, messageWidth, identifierOf, receiverOf, amountOf, originalOf, reasonOf, nameOf}
-
--- ---- a part of a part
-
-drop-take : (o k : ℕ) (s : List ℕ) → drop o (take (o + k) s) ≡ take k (drop o s)
-drop-take zero k s = rw zero-add
-drop-take (suc o) k [] = rw (take-nil k, take-nil (suc o + k))
-drop-take (suc o) k (x ∷ xs) = let next : suc o + k ≡ suc (o + k) = omega arith in rw next (drop-take o k xs)
-
-pub part-part : (s : List ℕ) (at w o n : ℕ) → o + n ≤ w → part (part s at w) o n ≡ part s (at + o) n
-part-part s at w o n h =
-    let more : w ≡ o + (w - o) = omega arith in
-    ap (λ (k : ℕ). take n (drop o (take k (drop at s)))) more
-    ∙ ap (take n) (drop-take o (w - o) (drop at s))
-    ∙ take-take n (w - o) (drop o (drop at s)) (omega arith)
-    ∙ ap (take n) (drop-drop o at s)
 
 -- ---- the fields of a header and of a message, as they stand in the sheet
 

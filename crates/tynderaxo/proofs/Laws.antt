@@ -7,7 +7,7 @@ use native.Mathlib.Nat.{lt-of-lt-of-le}
 use lib.Dec.{lit≤}
 use mir.Val.{boolByte}
 use Rattle.wire.specs.Field.{bit}
-use Rattle.routing.specs.Lookup.{Routed, rowIs, valuesOf}
+use Rattle.routing.specs.Lookup.{Routed, valuesOf}
 use Rattle.routing.specs.Promise.{AnswerTold}
 use Rattle.routing.specs.declared.Answer.{Answer}
 use Rattle.routing.specs.declared.Answer.the-variants.{Row}

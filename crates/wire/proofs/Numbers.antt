@@ -1,22 +1,22 @@
 -- The laws of big-endian numbers, each once over the width: reading in pieces, the bound, writing, the round trip both ways, and the
 -- order of two fields. Assumes nothing.
-use mathlib.Core.Path.{_≡_, refl, sym, ap, subst, _∙_}
+use mathlib.Core.Path.{_≡_, refl, sym, ap, _∙_}
 use mathlib.Core.Logic.{⊎-elim}
 use mathlib.Core.Bool.{Bool, true, false, _&&_, _||_}
 use mathlib.Core.List.{List, [], _∷_, _++_, append-nil, append-assoc}
 use Prim.Native.Nat.{ℕ, zero, suc, _+_, _-_, _*_, _/_, _%_, _^_, _≤_, _<_, min}
-use native.Mathlib.Nat.{pow-zero, pow-suc, pow-le-pow-right, add-zero, zero-add, add-suc, add-comm, add-mul, mul-assoc, mul-comm, zero-mul, mod-eq-of-lt, mod-lt, div-add-mod', lt-of-lt-of-le, le-trans, div-lt-iff-lt-mul, mul-add-div-right, mul-add-mod-self-right, mul-le-mul-right, le-of-lt, eq-or-lt-of-le}
+use native.Mathlib.Nat.{pow-zero, pow-suc, pow-le-pow-right, add-zero, zero-add, add-suc, mul-assoc, mul-comm, zero-mul, mod-eq-of-lt, mod-lt, div-add-mod', lt-of-lt-of-le, le-trans, div-lt-iff-lt-mul, mul-add-div-right, mul-add-mod-self-right, mul-le-mul-right, eq-or-lt-of-le}
 use native.Mathlib.Numerals.{add-one, one-add}
 use native.Mathlib.Omega.{arith}
 use lib.Arith.{digits-lt, digits-div, digits-mod, mod-mul}
 use lib.Pow.{mod-mod-pow}
-use lib.Dec.{lit<, lit≤, eqb, ltb}
+use lib.Dec.{lit<, eqb, ltb}
 use lib.ListN.{length, getD, take, drop, length-append, length-take, length-drop, take-append-drop}
 use lib.Seq.{take-suc, getD-drop}
-use borrow.Author.Tests.{lt-ltb, le-ltb, eq-eqb, ne-eqb, ltb-true, ltb-false, eqb-true, eqb-false}
+use borrow.Author.Tests.{lt-ltb, le-ltb, ltb-true, ltb-false, eqb-true, eqb-false}
 use Rattle.wire.proofs.Texts.{take-bytes, drop-bytes, part-bytes, part-short}
 use Rattle.wire.proofs.Sides.{le-or-lt}
-use Rattle.wire.specs.Field.{Bytes, part, numberFrom, numberOf, numberAt, bytesOf, same, less}
+use Rattle.wire.specs.Field.{Bytes, part, numberFrom, numberOf, numberAt, bytesOf, less}
 
 -- ---- reading in pieces
 
@@ -194,3 +194,13 @@ first-read (b ∷ bs) = rw (zero-mul, zero-add)
 
 pub one-read : (s : List ℕ) (at : ℕ) → numberAt s at 1 ≡ getD s at 0
 one-read s at = first-read (drop at s) ∙ getD-drop at s 0 0 ∙ ap (λ (k : ℕ). getD s k 0) (add-zero at)
+
+-- what passes the width is dropped
+pub bytes-mod : (w x : ℕ) → bytesOf w (x % 256 ^ w) ≡ bytesOf w x
+unfolding bytesOf
+bytes-mod w x =
+    let below : x % 256 ^ w < 256 ^ w = mod-lt x (pow-le-pow-right (lit< tt) {i = 0} {j = w} (omega arith)) in
+    sym (
+    ap (bytesOf w) (sym (div-add-mod' x (256 ^ w)))
+    ∙ ap (λ (n : ℕ). bytesOf n (x / 256 ^ w * 256 ^ w + x % 256 ^ w)) (sym (zero-add w))
+    ∙ bytes-split 0 w (x / 256 ^ w) (x % 256 ^ w) below)

@@ -1,14 +1,14 @@
 -- The laws of text fields: what the test of equality means, and what a part of a slice is. Assumes nothing.
 use mathlib.Core.Path.{_≡_, refl, sym, ap, ap₂, _∙_}
-use mathlib.Core.Bool.{Bool, true, false, _&&_, false≢true}
-use mathlib.Core.List.{List, [], _∷_}
+use mathlib.Core.Bool.{Bool, true, false, _&&_, false≢true, and-eq-true-iff}
+use mathlib.Core.List.{List, [], _∷_, _++_}
 use Prim.Native.Nat.{ℕ, zero, suc, _+_, _-_, _≤_, _<_, min}
-use native.Mathlib.Nat.{add-sub-cancel-left, zero-min, min-zero, suc-min-suc}
+use native.Mathlib.Nat.{add-sub-cancel-left, zero-min, min-zero, suc-min-suc, zero-add}
 use native.Mathlib.Numerals.{add-one}
 use native.Mathlib.Omega.{arith}
 use lib.Dec.{eqb, lit<}
 use lib.ListN.{length, getD, take, drop, length-take, length-drop, drop-of-length-le}
-use lib.Seq.{drop-cons, getD-drop}
+use lib.Seq.{drop-cons, getD-drop, take-take, drop-drop, take-nil, drop-append-le, take-append-le, drop-append-add}
 use borrow.Author.Tests.{eq-eqb, ne-eqb, eqb-true}
 use Rattle.wire.specs.Field.{Bytes, part, same}
 
@@ -19,17 +19,13 @@ unfolding same
 same-itself [] = refl
 same-itself (x ∷ xs) = rw (eq-eqb x x refl, same-itself xs)
 
-both-true : (a b : Bool) → (a && b) ≡ true → (a ≡ true) × (b ≡ true)
-both-true true b e = (refl, e)
-both-true false b e = absurd (false≢true e)
-
 pub same-equal : (s t : List ℕ) → same s t ≡ true → s ≡ t
 unfolding same
 same-equal [] [] e = refl
 same-equal [] (y ∷ ys) e = absurd (false≢true e)
 same-equal (x ∷ xs) [] e = absurd (false≢true e)
 same-equal (x ∷ xs) (y ∷ ys) e =
-    let both = both-true (eqb x y) (same xs ys) e in
+    let both = and-eq-true-iff (eqb x y) (same xs ys) .0 e in
     ap₂ (λ (b : ℕ) (bs : List ℕ). b ∷ bs) (eqb-true x y (both .0)) (same-equal xs ys (both .1))
 
 pub same-short : (s t : List ℕ) → (length s ≡ length t → ⊥) → same s t ≡ false
@@ -106,3 +102,27 @@ module _ (s t : List ℕ) (i : ℕ) (together : length s ≡ length t) (so-far :
   pub same-ends : length s ≤ i → true ≡ same s t
   unfolding same
   same-ends h = (let h' : length t ≤ i = omega arith in rw (drop-of-length-le s h, drop-of-length-le t h') at so-far)
+
+-- ---- a part of a part
+
+drop-take : (o k : ℕ) (s : List ℕ) → drop o (take (o + k) s) ≡ take k (drop o s)
+drop-take zero k s = rw zero-add
+drop-take (suc o) k [] = rw (take-nil k, take-nil (suc o + k))
+drop-take (suc o) k (x ∷ xs) = let next : suc o + k ≡ suc (o + k) = omega arith in rw next (drop-take o k xs)
+
+pub part-part : (s : List ℕ) (at w o n : ℕ) → o + n ≤ w → part (part s at w) o n ≡ part s (at + o) n
+part-part s at w o n h =
+    let more : w ≡ o + (w - o) = omega arith in
+    ap (λ (k : ℕ). take n (drop o (take k (drop at s)))) more
+    ∙ ap (take n) (drop-take o (w - o) (drop at s))
+    ∙ take-take n (w - o) (drop o (drop at s)) (omega arith)
+    ∙ ap (take n) (drop-drop o at s)
+
+-- ---- a part of two lists one after the other
+
+pub part-front : (xs ys : List ℕ) (o n : ℕ) → o + n ≤ length xs → part (xs ++ ys) o n ≡ part xs o n
+part-front xs ys o n h =
+    ap (take n) (drop-append-le o xs ys (omega arith)) ∙ take-append-le n (drop o xs) ys (rw (length-drop o xs) (omega arith))
+
+pub part-back : (xs ys : List ℕ) (k o n : ℕ) → length xs ≡ k → part (xs ++ ys) (k + o) n ≡ part ys o n
+part-back xs ys k o n e = rw (← e) (ap (take n) (drop-append-add xs ys o))

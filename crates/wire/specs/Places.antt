@@ -1,6 +1,6 @@
 -- A search and a test over numbered places, in order. Assumes nothing.
 use Prim.Native.Nat.{ℕ, zero, suc}
-use mathlib.Core.Bool.{Bool, true, false, cond, _&&_}
+use mathlib.Core.Bool.{Bool, true, cond, _&&_}
 use mathlib.Core.Option.{Option, none, some}
 
 -- the first of the n places from i on at which the test holds

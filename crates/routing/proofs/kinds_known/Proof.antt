@@ -1,6 +1,6 @@
 -- `routing::kinds_known` meets its contract: what is left of the scan comes to what the whole scan comes to. Assumes nothing.
 use mathlib.Core.Path.{_≡_, sym, ap, _∙_}
-use Prim.Native.Nat.{ℕ, _-_, _≤_}
+use Prim.Native.Nat.{_-_, _≤_}
 use mathlib.Core.Bool.{true, false}
 use borrow.Author.Tests.{not-true, not-false}
 use Rattle.wire.proofs.Scans.{every-fails, every-more, every-ends}

@@ -1,11 +1,11 @@
 -- `wire::number` meets its contract: after i bytes, v is the number that they write, modulo 2 ^ 64.
 -- Assumes nothing.
 use borrow.Author.Needs.{needs}
-use mathlib.Core.Path.{_≡_, sym, _∙_, ap}
+use mathlib.Core.Path.{_≡_, _∙_, ap}
 use mathlib.Core.List.{List}
-use Prim.Native.Nat.{ℕ, _≤_, _-_, _%_, _^_, _*_, _+_}
+use Prim.Native.Nat.{ℕ, _≤_, _-_, _%_, _^_}
 use native.Mathlib.Omega.{arith}
-use lib.ListN.{length, take, getD}
+use lib.ListN.{length, take}
 use lib.Seq.{take-all}
 use Rattle.wire.specs.Field.{numberFrom, numberOf}
 use Rattle.wire.proofs.Numbers.{word-step}

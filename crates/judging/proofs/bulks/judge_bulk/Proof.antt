@@ -3,14 +3,14 @@ use mathlib.Core.Bool.{not}
 use Prim.Native.Nat.{_+_}
 use native.Mathlib.Omega.{arith}
 use lib.Dec.{eqb}
-use Rattle.report.specs.Tally.{centsOf, totalsOf}
-use Rattle.report.proofs.Laws.{middle-lent}
+use Rattle.report.specs.Tally.{centsOf}
 use Rattle.judging.specs.Judgement.{judgeMessages}
 use Rattle.judging.specs.Ready.{stateOf, headerIn, messagesIn}
 use Rattle.judging.proofs.Sections.{bulk-asked, bulk-ready, bulk-parts, lent-within, lent-space, line-within, bulk-told}
 use borrow.Author.Needs.{needs}
 use Rattle.judging.proofs.bulks.judge_bulk.Statement.{statement}
 use Rattle.judging.proofs.bulks.judge_bulk.Tie as tie
+use Rattle.wire.proofs.Stores.{middle-lent}
 
 bulk-faults-requires : tie.Need-bulk-faults-requires
 bulk-faults-requires c κs =

@@ -1,7 +1,6 @@
 -- `judging::bulks::judge_bulks` meets its contract. Assumes nothing.
-use mathlib.Core.Path.{refl, _∙_}
-use native.Mathlib.Nat.{add-assoc}
-use Prim.Native.Nat.{_-_, _+_, _*_}
+use mathlib.Core.Path.{_∙_}
+use Prim.Native.Nat.{_-_}
 use native.Mathlib.Omega.{arith}
 use Rattle.judging.specs.Ready.{stateOf}
 use Rattle.judging.proofs.Checking.{header-room}

@@ -1,6 +1,6 @@
 -- `judging::messages::judge_messages` meets its contract. Assumes nothing.
-use mathlib.Core.Path.{refl, _∙_}
-use Prim.Native.Nat.{_-_, _*_}
+use mathlib.Core.Path.{refl}
+use Prim.Native.Nat.{_-_}
 use native.Mathlib.Omega.{arith}
 use Rattle.report.specs.Tally.{totalsOf}
 use Rattle.judging.specs.Ready.{stateOf, headerIn}

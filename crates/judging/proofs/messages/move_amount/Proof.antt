@@ -1,7 +1,7 @@
 -- `judging::messages::move_amount` meets its contract. Assumes nothing.
 use mathlib.Core.Path.{sym, ap, _∙_}
 use Rattle.routing.specs.Lookup.{optionOf}
-use Rattle.judging.proofs.Amounts.{row-within, moved-told, not-moved-from, not-moved-to}
+use Rattle.judging.proofs.Amounts.{row-within, moved-told}
 use borrow.Author.Needs.{needs}
 use Rattle.judging.proofs.messages.move_amount.Statement.{statement}
 use Rattle.judging.proofs.messages.move_amount.Tie as tie

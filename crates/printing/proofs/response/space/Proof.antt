@@ -1,7 +1,6 @@
 -- `printing::response::space` meets its contract. Assumes nothing.
 use mathlib.Core.Path.{refl}
 use Rattle.printing.specs.Response.{zeros}
-use borrow.Author.Needs.{needs}
 use Rattle.printing.proofs.response.space.Statement.{statement}
 use Rattle.printing.proofs.response.space.Tie as tie
 

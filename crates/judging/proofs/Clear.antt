@@ -1,12 +1,11 @@
 -- A call that is not refused: what each of the eleven conditions then says, and that they are all there is. Assumes nothing.
-use mathlib.Core.Path.{_≡_, refl, sym, ap, subst, _∙_}
+use mathlib.Core.Path.{_≡_, refl, sym, ap}
 use mathlib.Core.Bool.{Bool, true, false, cond, not, _&&_, _||_, false≢true}
 use mathlib.Core.List.{List, [], _∷_, _++_, map}
-use Prim.Native.Nat.{ℕ, zero, suc, _+_, _*_, _≤_, _<_}
-use native.Mathlib.Omega.{arith}
+use Prim.Native.Nat.{ℕ, _+_, _*_, _≤_}
 use lib.Dec.{eqb, ltb}
 use lib.ListN.{length}
-use borrow.Author.Tests.{eqb-true, ltb-false, not-false, le-ltb, eq-eqb, ne-eqb}
+use borrow.Author.Tests.{eqb-true, eqb-false, ltb-false, not-false, le-ltb, eq-eqb, ne-eqb}
 use Rattle.calendar.specs.Date.{isDate}
 use Rattle.routing.specs.Table.{rows, wellFormed}
 use Rattle.register.specs.Register.{free, wellFormed as registerFormed}
@@ -17,10 +16,10 @@ use Rattle.sheet.specs.Sheet.{Bulk, bulkCount, messageCount, bulksOf, firstSect
 use Rattle.sheet.proofs.Laws.{bulks-headers}
 use Rattle.rules.specs.Facts.{mostCents}
 use Rattle.report.specs.Line.{reportLength}
 use Rattle.judging.specs.Refusals.{Call, numberOf, mostBulks, mostMessages, holds, refusals, firstHolding, refusal}
-use Rattle.judging.specs.Outcome.{Outcome, judgement, judgedOf, turnedAway, outcome}
+use Rattle.judging.specs.Outcome.{judgement, judgedOf, turnedAway, outcome}
 use Rattle.judging.specs.declared.Refusal.{Refusal}
-use Rattle.judging.specs.declared.Refusal.the-variants.{Date, Table, Positions, Register, Sheet, Size, Kind, Order, Room, Limit, Space}
+use Rattle.judging.proofs.Whole.{some-number}
 
 -- ---- the conditions
 
@@ -41,19 +40,6 @@ pub record Clear (call : Call) : Type 0 where
   pub limit : roomForAll (call .positions) (messageCount (call .sheet) * mostCents) ≡ true
   pub space : reportLength (bulkCount (call .sheet)) (messageCount (call .sheet)) ≤ length (call .report)
 
-some-number : (r : Refusal) → numberOf r ≡ 0 → ⊥
-some-number Date e = omega arith
-some-number Table e = omega arith
-some-number Positions e = omega arith
-some-number Register e = omega arith
-some-number Sheet e = omega arith
-some-number Size e = omega arith
-some-number Kind e = omega arith
-some-number Order e = omega arith
-some-number Room e = omega arith
-some-number Limit e = omega arith
-some-number Space e = omega arith
-
 -- none of these holds
 unfoldable NoneHold : List Refusal → Call → Type 0
 NoneHold [] call = Unit {0}
@@ -65,7 +51,7 @@ none-hold [] call e = tt
 none-hold (r ∷ rs) call e = by-test (none-hold rs call) (holds r call) refl e
   where
     by-test : (firstHolding rs call ≡ 0 → NoneHold rs call) → (t : Bool) → holds r call ≡ t → cond t (numberOf r) (firstHolding rs call) ≡ 0 → (holds r call ≡ false) × NoneHold rs call
-    by-test later true h e = absurd (some-number r e)
+    by-test later true h e = absurd (eqb-false (numberOf r) 0 (some-number r) e)
     by-test later false h e = (h, later e)
 
 hold-none : (rs : List Refusal) (call : Call) → NoneHold rs call → firstHolding rs call ≡ 0
