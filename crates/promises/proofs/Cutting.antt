@@ -12,12 +12,12 @@ use Rattle.sheet.proofs.Laws.{whole-facts, end-forward}
 use Rattle.positions.proofs.Moves.{room-less}
 use Rattle.rules.specs.Facts.{mostCents}
 use Rattle.judging.specs.Judgement.{State, judgeBulks}
-use Rattle.judging.specs.Refusals.{Call}
+use Rattle.judging.specs.Refusals.{Call, refusal}
 use Rattle.judging.specs.Outcome.{Outcome, judgement, judgedOf, outcome}
 use Rattle.promises.specs.Reading.{InBytes, bulkLines, messageLines}
 use Rattle.promises.specs.Cut.{cutPlace, firstPart, secondPart, firstCall, secondCall, Enough, PartsMakeTheWhole, CutsAnywhere}
 use Rattle.promises.proofs.Bulks.{bulks-split, messages-split, end-split}
-use Rattle.judging.proofs.Clear.{Clear, clear-of, of-clear, number-is, outcome-judged, headers, known-parts, order-parts}
+use Rattle.judging.proofs.Clear.{Clear, clear-of, of-clear, outcome-judged, headers, known-parts, order-parts}
 use Rattle.promises.proofs.Fit.{Fit, bulks-fit}
 use Rattle.promises.proofs.Joined.{joins}
 use Rattle.promises.proofs.Lines.{bulk-lines-read, message-lines-read, bulk-number, message-number}
@@ -192,4 +192,9 @@ module _ (call : Call) (clear : Clear call) (k : ℕ) (h : k ≤ bulkCount (call
 -- whole, and register and positions end equal.
 pub cut-anywhere : CutsAnywhere outcome
 cut-anywhere call bytes e k h space space' enough enough' =
-    cut-made call (clear-of call (sym (number-is call) ∙ e)) k h bytes space space' enough enough'
+    cut-made call (clear-of call e) k h bytes space space' enough enough'
+
+-- and the two parts hold the file's bulks, all of them and in order
+pub parts-are-the-bulks : (call : Call) → refusal call ≡ 0 → (k : ℕ) → k ≤ bulkCount (call .sheet)
+    → bulksOf (call .sheet) ≡ bulksOf (firstPart (call .sheet) k) ++ bulksOf (secondPart (call .sheet) k)
+parts-are-the-bulks call e k h = bulks-are call (clear-of call e) k h

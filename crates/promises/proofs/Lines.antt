@@ -57,7 +57,7 @@ module _ (call : Call) (clear : Clear call) where
   front-length : length front ≡ 4 + bulkLineWidth * b
   front-length = length-append (bytesOf 4 b) (judgement call .lines) ∙ (rw (bytes-length 4 b, lines-length))
 
-  report-length : length (reportOf b (judgement call)) ≡ reportLength b m
+  pub report-length : length (reportOf b (judgement call)) ≡ reportLength b m
   report-length = length-append front (judgement call .sections) ∙ (rw (front-length, sections-length) (omega arith))
 
   -- what stands in the report is read there, as it would be in the text that was written

@@ -24,7 +24,7 @@ use Rattle.judging.specs.Judgement.{State, isAccepted, faultsOf, afterAccepted,
 use Rattle.judging.specs.Refusals.{Call, refusal}
 use Rattle.judging.specs.Outcome.{outcome}
 use Rattle.promises.specs.Reading.{Payment, paymentOf, accepted}
-use Rattle.promises.specs.Runs.{File, callOn, leftBy, run, withMessageTag, messageEntries, centsTo, centsFrom, RunsAsPromised}
+use Rattle.promises.specs.Runs.{File, callOn, leftBy, run, withMessageTag, messageEntries, centsTo, centsFrom, RunsAsPromised, EmptyRegisterFills}
 use Rattle.promises.proofs.Bulks.{AllWide, Shaped, AllShaped}
 use Rattle.judging.proofs.Clear.{Clear, clear-of, outcome-judged, outcome-refused}
 use Rattle.promises.proofs.Fit.{Sends, Accepted, Fit, row-below, route-below, has-row, accepted-facts, sends-facts, verdict-facts, after-accepted, after-rejected, moved-pays, fit-less, message-fit, messages-fit, bulk-fit, bulks-fit}
@@ -254,16 +254,20 @@ none-used : (register : List ℕ) → used register ≡ 0 → messageEntries reg
 unfolding entriesTo withMessageTag
 none-used register e = let none : inUse register ≡ 0 = omega arith in rw none
 
--- Over any run of files on one date and table from an empty register, refused ones among them: no sender's message identifier is
--- accepted twice, the register holds the accepted messages and no other, and each row's position is its start plus the cents accepted
--- to it less the cents accepted from it.
+-- Over any run of files on one date and table, refused ones among them: no sender's message identifier is accepted twice, the
+-- register gains the accepted messages and no other, and each row's position is its start plus the cents accepted to it less the
+-- cents accepted from it.
 pub runs-as-promised : RunsAsPromised outcome
-runs-as-promised date table before files empty bytes =
+runs-as-promised date table before files bytes =
     let ran = run outcome date table files before in
     let tracked = run-tracked date table files before bytes in
     record {
       once = none-twice (messageEntries (before .register)) (ran .accepted) (tracked .fresh);
       stands = all-stand-from (ran .after .register) (messageEntries (before .register)) (ran .accepted) (tracked .recorded);
-      recorded = tracked .recorded ∙ (rw (none-used (before .register) empty));
+      recorded = tracked .recorded;
       positions = tracked .positions;
     }
+
+pub empty-register-fills : EmptyRegisterFills outcome
+empty-register-fills date table before files empty bytes =
+    runs-as-promised date table before files bytes .recorded ∙ (rw (none-used (before .register) empty))

@@ -1,5 +1,6 @@
--- Each wrong judge is shut out by a statement: were the statement true of it, 0 would be 1. Assumes nothing.
-use mathlib.Core.Path.{_≡_, refl, sym, ap}
+-- Each wrong judge is shut out by a statement: were the statement true of it, there would be a contradiction on a small file, most
+-- often that 0 is 1. Assumes nothing.
+use mathlib.Core.Path.{_≡_, refl, sym, ap, _∙_}
 use mathlib.Core.Bool.{Bool, true, _&&_, and-eq-true-iff}
 use mathlib.Core.List.{List, [], _∷_, _++_}
 use Prim.Native.Nat.{ℕ, zero, suc, _-_, _/_}
@@ -14,7 +15,7 @@ use Rattle.wire.specs.Places.{firstFrom, everyFrom}
 use Rattle.calendar.specs.Date.{isDate, daysIn, leap}
 use Rattle.routing.specs.Table.{wellFormed, kindsKnown}
 use Rattle.routing.specs.Lookup.{rowOf, route}
-use Rattle.register.specs.Register.{entry, bulkTag, entriesTo, search, stands, add, wellFormed as registerFormed}
+use Rattle.register.specs.Register.{entry, bulkTag, used, entriesTo, search, stands, add, wellFormed as registerFormed}
 use Rattle.positions.specs.Positions.{roomForAll, gains, loses}
 use Rattle.sheet.specs.Sheet.{recordsAt, bulksFrom, endFrom, messagesFrom, whole, shape, mixed, kindsKnown as sheetKinds}
 use Rattle.wording.specs.Wording.{among, allowed, kept, formed, badlyFormed, bicFormed, blank, oneOf}
@@ -54,7 +55,15 @@ message identifier amount = padded 35 identifier ++ text "BBBBLV22XXX" ++ bytesO
 abbrev one : List ℕ
 one = bytesOf 4 1 ++ header "D1" 1 1 ++ bytesOf 4 1 ++ message "T1" 1
 
--- the same with a wrong sum
+-- another one
+abbrev other : List ℕ
+other = bytesOf 4 1 ++ header "D2" 1 1 ++ bytesOf 4 1 ++ message "T1" 1
+
+-- two bulks, both in order
+abbrev both : List ℕ
+both = bytesOf 4 2 ++ header "D1" 1 1 ++ header "D2" 1 1 ++ bytesOf 4 1 ++ message "T1" 1 ++ bytesOf 4 1 ++ message "T2" 1
+
+-- one bulk with a wrong sum
 abbrev fallen : List ℕ
 fallen = bytesOf 4 1 ++ header "D1" 1 2 ++ bytesOf 4 1 ++ message "T1" 1
 
@@ -127,17 +136,23 @@ pub shut-out : ShutOut
 unfolding allBytes bytesOf numberFrom same firstFrom everyFrom isDate daysIn leap wellFormed kindsKnown rowOf route entriesTo search stands add registerFormed roomForAll gains loses recordsAt bulksFrom endFrom messagesFrom whole shape mixed sheetKinds among allowed kept formed badlyFormed bicFormed blank oneOf mask bulkFaults messageFaults bulkLine messageLine sumOf afterMessage lineOf counted judgeMessages bulkLineOf sectionOf afterBulk judgeBulks holds firstHolding refusal outcome acceptedOf acceptedFrom accepted BulksTell MessagesTell centsOf run NoneLike NoneTwice withMessageTag AllStand centsTo centsFrom
 shut-out =
     record {
+      tellsNothing = λ s. zero-is-one (s (callOn one) (in-bytes one refl) refl .count);
       refusesAll = λ s. zero-is-one (sym (s (callOn one) .number));
       writesOnRefusal = λ s. zero-is-one (ap (λ (r : List ℕ). 1 - getD r 0 0) (s (callOn []) .untouched (λ e. omega arith) .report));
-      oneFixedReport = λ s. zero-is-one (s (callOn one) (in-bytes one refl) refl .count);
+      oneFixedReport = λ fixed s.
+          zero-is-one (ap (λ (l : List ℕ). getD l 1 0 - 49)
+          (sym (s (callOn one) (in-bytes one refl) refl .bulks .0 .identifier) ∙ s (callOn other) (in-bytes other refl) refl .bulks .0 .identifier));
       writesNothing = λ s. zero-is-one (s (callOn one) (in-bytes one refl) refl .count);
       copiesTheFirstLine = λ s. zero-is-one (sym (s (callOn two) (in-bytes two refl) refl .bulks .1 .0 .acceptedNumber));
       makesUpTheNumber = λ s. zero-is-one (ap (λ (n : ℕ). 2 - n) (s (callOn partial) (in-bytes partial refl) refl .bulks .0 .acceptedNumber));
       hidesBesideARepeat = λ s. zero-is-one (s repeated repeated-in-bytes refl .bulks .0 .faults 7);
+      writesPastTheReport = λ s. zero-is-one (sym (ap (λ (r : List ℕ). getD r 0 0) (s (callOn one) refl .laterBytes)));
       dropsALine = λ s.
           zero-is-one (ap (λ (l : List ℕ). (length l - 64) / 64) (s (callOn two) (in-bytes two refl) refl 1 (lit≤ tt) (replicate 300 0) (replicate 300 0) (lit≤ tt) (lit≤ tt) .bulkLines));
-      copiesTheFirstFile = (outcome (callOn one) .report, λ s. s 20260615 table start (file one ∷ file one ∷ []) refl no-cents .once .0 .0 (refl, refl));
-      recordsTheFallen = λ s. zero-is-one (sym (ap length (s 20260615 table start (file fallen ∷ []) refl no-cents .recorded)));
-      recordsNothing = λ s. zero-is-one (ap length (s 20260615 table start (file one ∷ []) refl no-cents .recorded));
-      movesTheStatedSum = λ s. zero-is-one (ap (λ (k : ℤ). 2 - natAbs k) (s 20260615 table start (file partial ∷ []) refl no-cents .positions 1));
+      forgetsALoneBulk = λ s.
+          zero-is-one (ap (λ (r : List ℕ). (used r - 2) / 2) (s (callOn both) (in-bytes both refl) refl 1 (lit≤ tt) (replicate 300 0) (replicate 300 0) (lit≤ tt) (lit≤ tt) .register));
+      copiesTheFirstFile = (outcome (callOn one) .report, λ s. s 20260615 table start (file one ∷ file one ∷ []) no-cents .once .0 .0 (refl, refl));
+      recordsTheFallen = λ s. zero-is-one (sym (ap length (s 20260615 table start (file fallen ∷ []) no-cents .recorded)));
+      recordsNothing = λ s. zero-is-one (ap length (s 20260615 table start (file one ∷ []) no-cents .recorded));
+      movesTheStatedSum = λ s. zero-is-one (ap (λ (k : ℤ). 2 - natAbs k) (s 20260615 table start (file partial ∷ []) no-cents .positions 1));
     }

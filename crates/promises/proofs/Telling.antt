@@ -6,28 +6,29 @@ use Prim.Native.Nat.{ℕ, zero, suc, _+_, _*_, _/_, _%_, _^_, _≤_, _<_}
 use native.Mathlib.Nat.{add-zero, mod-eq-of-lt}
 use native.Mathlib.Omega.{arith}
 use lib.Dec.{eqb}
-use lib.ListN.{length}
-use lib.Seq.{take-all}
+use lib.ListN.{length, drop, length-drop}
+use lib.Seq.{sets, take-all, length-sets}
 use Rattle.wire.specs.Field.{Bytes, part, numberOf, numberAt, bytesOf}
 use Rattle.wire.proofs.Numbers.{bytes-length, written-read}
+use Rattle.wire.proofs.Stores.{part-after}
 use Rattle.wire.proofs.Texts.{part-length}
-use Rattle.sheet.specs.Sheet.{headerWidth, messageWidth, recordsAt, Bulk, bulksOf, bulksFrom, bulkCount, firstSection, countAt, afterSection, messagesIn, identifierOf, bulkIdentifierOf, amountOf}
+use Rattle.sheet.specs.Sheet.{headerWidth, messageWidth, recordsAt, Bulk, bulksOf, bulksFrom, bulkCount, firstSection, countAt, afterSection, messagesIn, identifierOf, bulkIdentifierOf, amountOf, messageCount}
 use Rattle.rules.specs.Facts.{mostCents, messageFacts, messageFaults, bulkFacts, bulkFaults}
-use Rattle.report.specs.Line.{messageLine, messageLineWidth, bulkLineWidth}
+use Rattle.report.specs.Line.{messageLine, messageLineWidth, bulkLineWidth, reportLength}
 use Rattle.report.specs.Tally.{Totals, withAccepted, withRejected}
 use Rattle.judging.specs.Judgement.{State, isAccepted, messageOutcome, bulkOutcome, sumOf, faultsOf, faultsOfBulk, lineOf, counted, afterMessage, judgeMessages, falls, messagesJudged, bulkLineOf, sectionOf, afterBulk, judgeBulks}
 use Rattle.judging.specs.Refusals.{refusal}
-use Rattle.judging.specs.Outcome.{judgement, judgedOf, outcome}
+use Rattle.judging.specs.Outcome.{judgement, reportOf, judgedOf, outcome}
 use Rattle.judging.proofs.Amounts.{amount-word}
 use Rattle.judging.proofs.Demands.{numbers-add-up, cents-add-up, bulk-shows, message-shows}
 use Rattle.promises.specs.Reading.{Payment, paymentOf, afterBulkLines}
-use Rattle.promises.specs.Demands.{RefusesAsWritten, totalsAt, centsOf, MessageTells, MessagesTell, BulkTells, BulksTell, EveryLineTells}
+use Rattle.promises.specs.Demands.{RefusesAsWritten, totalsAt, centsOf, MessageTells, MessagesTell, BulkTells, BulksTell, EveryLineTells, LeavesTheRest}
 use Rattle.promises.proofs.Bulks.{AllWide, Shaped, AllShaped}
 use Rattle.judging.proofs.Clear.{clear-of, number-is, outcome-judged, outcome-refused}
 use Rattle.promises.proofs.Fields.{mask-below, head-identifier, head-outcome, head-faults, head-length, BulkLineRead, bulk-line-read}
 use Rattle.promises.proofs.Fit.{accepted-facts, verdict-facts}
 use Rattle.promises.proofs.Joined.{line-wide, section-wide, bulk-line-wide}
-use Rattle.promises.proofs.Lines.{shaped, message-number, count-read, lines-read, sections-read}
+use Rattle.promises.proofs.Lines.{shaped, message-number, report-length, count-read, lines-read, sections-read}
 use Rattle.promises.proofs.Said.{Stands, stands-front, stands-back, paid, said-messages}
 
 -- ---- demand 1
@@ -243,10 +244,9 @@ module _ (date : ℕ) (table report : List ℕ) where
 
 pub every-line-tells : EveryLineTells outcome
 every-line-tells call bytes e =
-    let clean : refusal call ≡ 0 = sym (number-is call) ∙ e in
-    let clear = clear-of call clean in
+    let clear = clear-of call e in
     let few = clear .fewMessages in
-    rw (outcome-judged call clean)
+    rw (outcome-judged call e)
     (record {
       length = refl;
       count = count-read call clear;
@@ -255,4 +255,22 @@ every-line-tells call bytes e =
           4 (afterBulkLines (bulkCount (call .sheet))) (shaped call clear) (rw (message-number call clear) few)
           (small-bulks (call .sheet) (bulkCount (call .sheet)) 4 (firstSection (call .sheet)) (bytes .sheet))
           (lines-read call clear) (sections-read call clear);
+    })
+
+pub leaves-the-rest : LeavesTheRest outcome
+leaves-the-rest call e =
+    let clear = clear-of call e in
+    let text = reportOf (bulkCount (call .sheet)) (judgement call) in
+    let n = reportLength (bulkCount (call .sheet)) (messageCount (call .sheet)) in
+    let all = length (call .report) in
+    let long : length text ≡ n = report-length call clear in
+    rw (outcome-judged call e)
+    (record {
+      register = refl;
+      positions = refl;
+      laterBytes =
+          sym (take-all all (drop n (sets (call .report) 0 text)) (simp (length-drop, length-sets) (omega arith)))
+          ∙ part-after (call .report) 0 text n all (omega arith)
+          ∙ take-all all (drop n (call .report)) (simp length-drop (omega arith));
+      space = length-sets (call .report) 0 text;
     })

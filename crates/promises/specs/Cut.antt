@@ -6,7 +6,7 @@ use lib.ListN.{length, drop}
 use Rattle.wire.specs.Field.{part, bytesOf}
 use Rattle.sheet.specs.Sheet.{headerWidth, bulkCount, messageCount, firstSection, endFrom}
 use Rattle.report.specs.Line.{reportLength}
-use Rattle.judging.specs.Refusals.{Call}
+use Rattle.judging.specs.Refusals.{Call, refusal}
 use Rattle.judging.specs.Outcome.{Outcome}
 use Rattle.promises.specs.Reading.{Judge, InBytes, bulkLines, messageLines}
 
@@ -69,10 +69,11 @@ pub record PartsMakeTheWhole (whole first second : Outcome) : Type 0 where
   pub register : second .register ≡ whole .register
   pub positions : second .positions ≡ whole .positions
 
--- demand 3, the cut: of a judge, for every call that it does not refuse, every place, and space enough for each part
+-- demand 3, the cut: of a judge, for every call that none of the eleven conditions turns away, every place, and space enough for
+-- each part
 abbrev pub CutsAnywhere : Judge → Type 0
 CutsAnywhere judge =
-    (call : Call) → InBytes call → judge call .number ≡ 0
+    (call : Call) → InBytes call → refusal call ≡ 0
     → (k : ℕ) → k ≤ bulkCount (call .sheet)
     → (space space' : List ℕ) → Enough space (firstPart (call .sheet) k) → Enough space' (secondPart (call .sheet) k)
     → let first = judge (firstCall call k space) in PartsMakeTheWhole (judge call) first (judge (secondCall call k first space'))

@@ -3,7 +3,7 @@ use Prim.Native.Nat.{ℕ, _+_, _*_, _/_, _%_, _^_}
 use mathlib.Core.Path.{_≡_}
 use mathlib.Core.Bool.{Bool, false}
 use mathlib.Core.List.{List, [], _∷_}
-use lib.ListN.{length, getD}
+use lib.ListN.{length, drop, getD}
 use Rattle.wire.specs.Field.{bit, part, numberAt}
 use Rattle.sheet.specs.Sheet.{Bulk, bulkIdentifierOf, identifierOf, bulkCount, messageCount, bulksOf}
 use Rattle.rules.specs.Facts.{bulkFacts, messageFacts}
@@ -11,7 +11,7 @@ use Rattle.report.specs.Line.{bulkLineWidth, messageLineWidth, reportLength}
 use Rattle.report.specs.Tally.{Totals}
 use Rattle.judging.specs.Judgement.{State, sumOf, messageOutcome, bulkOutcome, faultsOf, afterMessage, falls, afterBulk}
 use Rattle.judging.specs.Refusals.{Call, refusal}
-use Rattle.judging.specs.Outcome.{Outcome}
+use Rattle.judging.specs.Outcome.{Outcome, judgement}
 use Rattle.promises.specs.Reading.{Judge, InBytes, Payment, acceptedOf, lineCount, afterBulkLines}
 
 -- ---- demand 1
@@ -94,4 +94,15 @@ pub record LinesTell (call : Call) (left : Outcome) : Type 0 where
 
 -- every line shows every fault it has and no other, and a bulk's numbers and cents add up to what it really holds
 abbrev pub EveryLineTells : Judge → Type 0
-EveryLineTells judge = (call : Call) → InBytes call → judge call .number ≡ 0 → LinesTell call (judge call)
+EveryLineTells judge = (call : Call) → InBytes call → refusal call ≡ 0 → LinesTell call (judge call)
+
+-- ---- and what else is left: register and positions as the judgement leaves them, and no byte of the report past its length touched
+
+pub record Leaves (call : Call) (left : Outcome) : Type 0 where
+  pub register : left .register ≡ judgement call .after .register
+  pub positions : left .positions ≡ judgement call .after .positions
+  pub laterBytes : drop (left .length) (left .report) ≡ drop (left .length) (call .report)
+  pub space : length (left .report) ≡ length (call .report)
+
+abbrev pub LeavesTheRest : Judge → Type 0
+LeavesTheRest judge = (call : Call) → refusal call ≡ 0 → Leaves call (judge call)

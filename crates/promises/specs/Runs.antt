@@ -110,14 +110,20 @@ pub record RunHolds (date : ℕ) (table : List ℕ) (before : State) (ran : Ran)
   pub once : NoneTwice (ran .accepted)
   -- every accepted message stands in the register, and no other message was recorded
   pub stands : AllStand (ran .after .register) (ran .accepted)
-  pub recorded : messageEntries (ran .after .register) ≡ map entryOf (ran .accepted)
+  pub recorded : messageEntries (ran .after .register) ≡ messageEntries (before .register) ++ map entryOf (ran .accepted)
   -- each row's position is its start plus the cents accepted to it less the cents accepted from it
   pub positions : (j : ℕ)
       → signed (positionAt (ran .after .positions) j)
       ≡ signed (positionAt (before .positions) j) +ℤ pos (centsTo date table j (ran .accepted)) -ℤ pos (centsFrom date table j (ran .accepted))
 
--- demand 3, the run: of a judge, for any files, refused ones among them, from an empty register and any positions
+-- demand 3, the run: of a judge, for any files, refused ones among them, from any register and any positions
 abbrev pub RunsAsPromised : Judge → Type 0
 RunsAsPromised judge =
-    (date : ℕ) (table : List ℕ) (before : State) (files : List File) → used (before .register) ≡ 0 → Bytes (before .positions)
+    (date : ℕ) (table : List ℕ) (before : State) (files : List File) → Bytes (before .positions)
     → RunHolds date table before (run judge date table files before)
+
+-- and from an empty one, whatever stands past the number used: the message entries are those of the accepted messages
+abbrev pub EmptyRegisterFills : Judge → Type 0
+EmptyRegisterFills judge =
+    (date : ℕ) (table : List ℕ) (before : State) (files : List File) → used (before .register) ≡ 0 → Bytes (before .positions)
+    → let ran = run judge date table files before in messageEntries (ran .after .register) ≡ map entryOf (ran .accepted)

@@ -1,5 +1,5 @@
 -- Judges that must be shut out, each the right one but for what its name says. Assumes nothing.
-use Prim.Native.Nat.{ℕ, _+_}
+use Prim.Native.Nat.{ℕ, _+_, _-_, _/_, _%_}
 use mathlib.Core.Bool.{cond}
 use mathlib.Core.List.{List, [], _∷_, _++_}
 use lib.ListN.{length, getD}
@@ -16,7 +16,7 @@ use Rattle.judging.specs.Refusals.{Call}
 use Rattle.judging.specs.Outcome.{Outcome, turnedAway, outcome}
 use Rattle.promises.specs.Reading.{Judge, afterBulkLines}
 use Rattle.promises.specs.Cut.{CutsAnywhere}
-use Rattle.promises.specs.Demands.{RefusesAsWritten, EveryLineTells}
+use Rattle.promises.specs.Demands.{RefusesAsWritten, EveryLineTells, LeavesTheRest}
 use Rattle.promises.specs.Runs.{RunsAsPromised}
 
 -- ---- one part of an outcome put in place of another
@@ -32,6 +32,10 @@ withRegister left text =
 abbrev pub withPositions : Outcome → List ℕ → Outcome
 withPositions left text =
     record { number = left .number; length = left .length; register = left .register; positions = text; report = left .report }
+
+-- where a call is not refused, its outcome changed
+abbrev pub whereJudged : (Outcome → Outcome) → Judge
+whereJudged change call = cond (eqb (outcome call .number) 0) (change (outcome call)) (outcome call)
 
 -- the first bulk, and its first message
 abbrev pub firstBulk : Call → Bulk
@@ -51,34 +55,46 @@ writesOnRefusal call = cond (eqb (outcome call .number) 0) (outcome call) (withR
 
 -- ---- of the second
 
--- the report on a sheet of no bulks, whatever the sheet
-abbrev pub oneFixedReport : Judge
-oneFixedReport call =
-    record { number = outcome call .number; length = 4; register = call .register; positions = call .positions; report = sets (call .report) 0 (bytesOf 4 0) }
+-- the same report on every file
+abbrev pub oneFixedReport : List ℕ → Judge
+oneFixedReport fixed call = whereJudged (λ left. withReport left (sets (call .report) 0 fixed)) call
 
+-- every byte that was lent stays
 abbrev pub writesNothing : Judge
-writesNothing call = withReport (outcome call) (call .report)
+writesNothing call =
+    whereJudged (λ left. record { number = left .number; length = left .length; register = call .register; positions = call .positions; report = call .report }) call
 
--- the second bulk's line is the first one's
+-- where there are two bulks or more, the second one's line is the first one's
 abbrev pub copiesTheFirstLine : Judge
-copiesTheFirstLine call = withReport (outcome call) (sets (outcome call .report) (4 + bulkLineWidth) (part (outcome call .report) 4 bulkLineWidth))
+copiesTheFirstLine call =
+    whereJudged (λ left. cond (ltb 1 (bulkCount (call .sheet))) (withReport left (sets (left .report) (4 + bulkLineWidth) (part (left .report) 4 bulkLineWidth))) left) call
 
 -- the first bulk's line says that all its messages were accepted
 abbrev pub makesUpTheNumber : Judge
-makesUpTheNumber call = withReport (outcome call) (sets (outcome call .report) 42 (bytesOf 4 (length (firstBulk call .messages))))
+makesUpTheNumber call = whereJudged (λ left. withReport left (sets (left .report) 42 (bytesOf 4 (length (firstBulk call .messages))))) call
 
 -- where the first bulk is a repeat, nothing else is shown
 abbrev pub hidesBesideARepeat : Judge
-hidesBesideARepeat call = withReport (outcome call) (cond (ltb 15 (numberAt (outcome call .report) 40 2)) (sets (outcome call .report) 40 (bytesOf 2 16)) (outcome call .report))
+hidesBesideARepeat call =
+    whereJudged (λ left. cond (eqb (numberAt (left .report) 40 2 / 16 % 2) 1) (withReport left (sets (left .report) 40 (bytesOf 2 16))) left) call
+
+-- a byte after the report is set
+abbrev pub writesPastTheReport : Judge
+writesPastTheReport call = whereJudged (λ left. withReport left (sets (left .report) (left .length) (1 ∷ []))) call
 
 -- ---- of the third
 
--- the second bulk's line and section are left out
+-- of a file of two bulks only the first one's line is written
 abbrev pub dropsALine : Judge
 dropsALine call =
     cond (eqb (bulkCount (call .sheet)) 2)
     (withReport (outcome call) (sets (call .report) 0 (bytesOf 4 1 ++ part (outcome call .report) 4 bulkLineWidth)))
     (outcome call)
+
+-- of a file of one bulk the last entry added does not come into use: its lines are right, and so is every other file
+abbrev pub forgetsALoneBulk : Judge
+forgetsALoneBulk call =
+    whereJudged (λ left. cond (eqb (bulkCount (call .sheet)) 1) (withRegister left (sets (left .register) 0 (bytesOf 4 (used (left .register) - 1)))) left) call
 
 -- once an identifier is in use, every report is the one that was first written
 abbrev pub copiesTheFirstFile : List ℕ → Judge
@@ -90,31 +106,36 @@ copiesTheFirstFile first call =
 -- the first message is recorded though it fell
 abbrev pub recordsTheFallen : Judge
 recordsTheFallen call =
-    cond (eqb (numberAt (outcome call .report) (afterBulkLines (bulkCount (call .sheet)) + 4 + 35) 1) 2)
-    (withRegister (outcome call) (add (outcome call .register) (entry (senderOf (firstBulk call .header)) (identifierOf (firstMessage call)) messageTag)))
-    (outcome call)
+    whereJudged (λ left.
+    cond (eqb (numberAt (left .report) (afterBulkLines (bulkCount (call .sheet)) + 4 + 35) 1) 2)
+    (withRegister left (add (left .register) (entry (senderOf (firstBulk call .header)) (identifierOf (firstMessage call)) messageTag)))
+    left) call
 
 abbrev pub recordsNothing : Judge
-recordsNothing call = withRegister (outcome call) (call .register)
+recordsNothing call = whereJudged (λ left. withRegister left (call .register)) call
 
 -- what moves is the sum that the first bulk states, and not what was accepted
 abbrev pub movesTheStatedSum : Judge
 movesTheStatedSum call =
-    withPositions (outcome call)
+    whereJudged (λ left.
+    withPositions left
     (moved (call .positions) (senderRow (call .date) (call .table) (firstBulk call .header)) (route (call .date) (call .table) (receiverOf (firstMessage call)))
-    (statedSumOf (firstBulk call .header)))
+    (statedSumOf (firstBulk call .header)))) call
 
 -- ---- which statement refuses which
 
 pub record ShutOut : Type 0 where
+  pub tellsNothing : EveryLineTells refusesAll → ⊥
   pub refusesAll : RefusesAsWritten refusesAll → ⊥
   pub writesOnRefusal : RefusesAsWritten writesOnRefusal → ⊥
-  pub oneFixedReport : EveryLineTells oneFixedReport → ⊥
+  pub oneFixedReport : (fixed : List ℕ) → EveryLineTells (oneFixedReport fixed) → ⊥
   pub writesNothing : EveryLineTells writesNothing → ⊥
   pub copiesTheFirstLine : EveryLineTells copiesTheFirstLine → ⊥
   pub makesUpTheNumber : EveryLineTells makesUpTheNumber → ⊥
   pub hidesBesideARepeat : EveryLineTells hidesBesideARepeat → ⊥
+  pub writesPastTheReport : LeavesTheRest writesPastTheReport → ⊥
   pub dropsALine : CutsAnywhere dropsALine → ⊥
+  pub forgetsALoneBulk : CutsAnywhere forgetsALoneBulk → ⊥
   -- the report that the judge wrote on some file, handed out again
   pub copiesTheFirstFile : (first : List ℕ) × (RunsAsPromised (copiesTheFirstFile first) → ⊥)
   pub recordsTheFallen : RunsAsPromised recordsTheFallen → ⊥

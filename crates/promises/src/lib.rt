@@ -1,1 +1,2 @@
-// What holds over cuts, runs, two results and the table of edges: statements in specs/, their proofs in proofs/. There is no code here.
+// The demands as statements and their proofs: over one call, over cuts and runs, over two results of a contract, and at the edges.
+// There is no code here.
