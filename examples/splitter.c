@@ -1,5 +1,5 @@
 /*
- * How a splitter calls the judge: it lays out the whole case of document 01 in memory, has it judged, asks for a few
+ * How a splitter calls the judge: it lays out the worked case in memory, has it judged, asks for a few
  * routes and prints what came back.
  */
 #include <inttypes.h>

@@ -63,7 +63,7 @@ pub fn same_route(judge: &mut impl Judge, date: u32, table: &[u8], bic: &[u8]) -
     equal("the route", judge.lookup(date, table, bic)?, Reference.lookup(date, table, bic)?)
 }
 
-/// What a program prints for these bytes, against what the document has it print.
+/// What a program prints for these bytes, against what the rules have it print.
 pub fn same_lines(program: &Path, input: &[u8]) -> Result<(), Trouble> {
     let run = || -> std::io::Result<Vec<u8>> {
         let mut child = command(program).stdin(Stdio::piped()).stdout(Stdio::piped()).spawn()?;

@@ -1,4 +1,4 @@
-//! A second judge, written from document 01 alone, and the tools that set it against the archive.
+//! A second judge, written from the rules alone, and the tools that set it against the archive.
 
 pub mod archive;
 pub mod call;

@@ -1,4 +1,4 @@
-//! The records of document 01, each layout said once, and sections of them.
+//! The records of the rules, each layout said once, and sections of them.
 
 pub type Identifier = [u8; 35];
 pub type Sender = [u8; 8];

@@ -1,4 +1,4 @@
-//! The whole case of document 01, byte by byte, and what a judgement changes.
+//! The whole case, byte by byte, and what a judgement changes.
 
 mod support;
 

@@ -4,7 +4,7 @@ use super::Maker;
 use crate::call::{read_positions, report_length, write_positions, Call};
 use crate::records::{number, read_bulks, Bulk, Entry, Header, Record, Row, COUNT};
 
-/// The limits in document 01, of positions and of one amount.
+/// The limits in the rules, of positions and of one amount.
 const MOST_POSITION: i64 = 1_000_000_000_000_000_000;
 const MOST_CENTS: i64 = 99_999_999_999;
 

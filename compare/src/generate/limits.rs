@@ -110,7 +110,7 @@ const EDGE: i64 = 1_000_000_000_000_000_000 - 15_000 * MOST_CENTS as i64;
 /// A case with its name, made when it is needed.
 pub type Limit = (&'static str, fn() -> Call);
 
-/// Every limit of size in document 01, just kept and just passed. Each case alone is judged quickly.
+/// Every limit of size in the rules, just kept and just passed. Each case alone is judged quickly.
 pub const LIMITS: [Limit; 31] = [
     ("999 empty bulks", || call(&rows(2), register(0, 999), &bulks(999, 0, 0))),
     ("1,000 empty bulks", || call(&rows(2), register(0, 1_000), &bulks(1_000, 0, 0))),

@@ -1,4 +1,4 @@
-//! The second judge: document 01 read as directly as Rust allows, for being right rather than fast.
+//! The second judge: the rules read as directly as Rust allows, for being right rather than fast.
 //!
 //! It shares no line and no search with the proved judge. Sums are `u128`, positions `i128`, the register a set.
 

@@ -1,4 +1,5 @@
--- What a judgement is: bulks in order, messages in order, each looked up in the register as it then stands. Assumes nothing.
+-- What a judgement is: a walk over bulks and messages in their order, each of which sees the register that the ones before it left.
+-- Assumes nothing.
 use Prim.Native.Nat.{ℕ, _+_}
 use mathlib.Core.Bool.{Bool, true, cond, not, _&&_}
 use mathlib.Core.List.{List, [], _∷_, _++_}

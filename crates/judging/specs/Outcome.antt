@@ -45,7 +45,7 @@ judgedOf call judged =
 unfoldable pub outcome : Call → Outcome
 outcome call = cond (eqb (refusal call) 0) (judgedOf call (judgement call)) (turnedAway (refusal call) call)
 
--- ---- the document's number and length for each case of the answer
+-- ---- the number and the length for each case of the answer
 
 abbrev pub answerNumber : Answer → ℕ
 answerNumber (Refused r) = numberOf r

@@ -11,7 +11,7 @@ use Rattle.judging.specs.Refusals.{Call}
 use Rattle.judging.specs.Outcome.{Outcome, outcome}
 use Rattle.printing.specs.Lines.{refusalText, judgedText}
 
--- ---- the input: a date in 4 bytes, then table, register and sheet, each after its length in 4 bytes
+-- ---- the input: the date, then three parts, each behind its length; dates and lengths take 4 bytes
 
 abbrev pub mostPart : ℕ
 mostPart = 16384

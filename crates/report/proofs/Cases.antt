@@ -1,4 +1,4 @@
--- The lines tried byte by byte: those of the document's whole case, sums at the edges of their fields, and what a report takes. One
+-- The lines tried byte by byte: those of the whole case, sums at the edges of their fields, and what a report takes. One
 -- table, one statement. Assumes nothing.
 use mathlib.Core.Path.{_≡_, refl}
 use mathlib.Core.List.{List, [], _∷_, _++_, map}

@@ -1,4 +1,4 @@
--- What a bulk comes to: messages and cents, accepted and rejected. Cents and numbers of messages never add to one another.
+-- What a bulk comes to: messages and cents, accepted and rejected. A number of messages and a sum of cents are kept apart throughout.
 -- Assumes nothing.
 use Prim.Native.Nat.{ℕ, _+_, _*_, _^_}
 use Rattle.report.specs.declared.Cents.{Cents}

@@ -83,7 +83,7 @@ lookup date table bic =
     (cond (not (eqb (length bic) bicWidth)) (refused 18)
     (routed table (route date table bic))))
 
--- ---- the document's numbers and values for the cases of the enums
+-- ---- the numbers and values for the cases of the enums
 
 abbrev pub optionOf : Found → Option ℕ
 optionOf (FoundRow i) = some i
