@@ -3,36 +3,43 @@ use mathlib.Core.Path.{_≡_, refl}
 use mathlib.Core.Bool.{Bool, true, false}
 use mathlib.Core.List.{List, [], _∷_, _++_, map}
 use Prim.Native.Nat.{ℕ, _+_, _-_, _^_}
+use lib.ListN.{replicate}
 use lib.IntN.{ℤ, pos, negsuc}
 use Rattle.wire.specs.Field.{bytesOf, numberFrom}
 use Rattle.wire.specs.Places.{everyFrom}
-use Rattle.positions.specs.Positions.{signed, magnitude, roomForAll, gains, loses}
+use Rattle.positions.specs.Positions.{fits, negative, signed, magnitude, roomForAll, gains, loses}
 
--- ---- the reading: 64 bits, the whole number, what it lies away from 0
+-- ---- the reading: 64 bits, the whole number, whether it is below 0, what it lies away from it
 
 record Reading : Type 0 where
   bits : ℕ
   whole : ℤ
+  under : Bool
   away : ℕ
 
-reading : ℕ → ℤ → ℕ → Reading
-reading b w a = record { bits = b; whole = w; away = a }
+reading : ℕ → ℤ → Bool → ℕ → Reading
+reading b w u a = record { bits = b; whole = w; under = u; away = a }
 
 -- negsuc n is -(n + 1)
 readings : List Reading
 readings =
-    reading 0 (pos 0) 0
-    ∷ reading 1 (pos 1) 1
-    ∷ reading (2 ^ 63 - 1) (pos 9223372036854775807) 9223372036854775807
-    ∷ reading (2 ^ 63) (negsuc 9223372036854775807) 9223372036854775808
-    ∷ reading (2 ^ 63 + 1) (negsuc 9223372036854775806) 9223372036854775807
-    ∷ reading (2 ^ 64 - 100) (negsuc 99) 100
-    ∷ reading (2 ^ 64 - 1) (negsuc 0) 1
+    reading 0 (pos 0) false 0
+    ∷ reading 1 (pos 1) false 1
+    ∷ reading (2 ^ 63 - 1) (pos 9223372036854775807) false 9223372036854775807
+    ∷ reading (2 ^ 63) (negsuc 9223372036854775807) true 9223372036854775808
+    ∷ reading (2 ^ 63 + 1) (negsuc 9223372036854775806) true 9223372036854775807
+    ∷ reading (2 ^ 64 - 100) (negsuc 99) true 100
+    ∷ reading (2 ^ 64 - 1) (negsuc 0) true 1
     ∷ []
 
-readingsRight : (map (λ q. signed (q .bits)) readings ≡ map (λ q. q .whole) readings) × (map (λ q. magnitude (q .bits)) readings ≡ map (λ q. q .away) readings)
+readingsRight : (map (λ q. signed (q .bits)) readings ≡ map (λ q. q .whole) readings) × (map (λ q. negative (q .bits)) readings ≡ map (λ q. q .under) readings) × (map (λ q. magnitude (q .bits)) readings ≡ map (λ q. q .away) readings)
 unfolding readings reading
-readingsRight = (refl, refl)
+readingsRight = (refl, refl, refl)
+
+-- ---- as many as the rows: two of them, a byte more, a byte less
+
+fitsRight : map (λ n. fits (replicate n 7) 2) (15 ∷ 16 ∷ 17 ∷ 24 ∷ []) ≡ false ∷ true ∷ false ∷ false ∷ []
+fitsRight = refl
 
 -- ---- room: the bits of each row, so many cents, and whether every row could take them
 

@@ -1,23 +1,23 @@
 -- The laws of an amount moved that the crates above cite, and those that the proofs here share. Assumes nothing.
-use mathlib.Core.Path.{_≡_, sym, ap, _∙_}
+use mathlib.Core.Path.{_≡_, refl, sym, ap, _∙_}
 use mathlib.Core.Logic.{⊎-elim}
-use mathlib.Core.Bool.{Bool, true, false}
+use mathlib.Core.Bool.{Bool, true, false, _&&_}
 use mathlib.Core.List.{List}
-use Prim.Native.Nat.{ℕ, _+_, _-_, _/_, _%_, _^_, _≤_, _<_}
+use Prim.Native.Nat.{ℕ, _+_, _-_, _/_, _*_, _%_, _^_, _≤_, _<_}
 use native.Mathlib.Nat.{sub-zero}
 use native.Mathlib.Omega.{arith}
-use lib.Dec.{leb}
-use lib.ListN.{length}
+use lib.Dec.{leb, eqb}
+use lib.ListN.{length, drop-of-length-le}
 use lib.Seq.{sets, length-sets}
-use borrow.Author.Tests.{leb-true, le-leb, lt-leb, lt-ltb, le-ltb}
-use Rattle.wire.specs.Field.{Bytes, part, numberOf, bytesOf}
+use borrow.Author.Tests.{leb-true, eqb-true, eqb-false, eq-eqb, ne-eqb, le-leb, lt-leb, lt-ltb, le-ltb}
+use Rattle.wire.specs.Field.{Bytes, part, numberFrom, numberOf, bytesOf}
 use Rattle.wire.specs.Places.{everyFrom}
 use Rattle.wire.proofs.Numbers.{bytes-length, written-read, read-written, number-below, bytes-mod}
 use Rattle.wire.proofs.Scans.{every-holds}
 use Rattle.wire.proofs.Sides.{le-or-lt}
 use Rattle.wire.proofs.Stores.{part-stored, part-before, part-after, sets-over, sets-same, written-bytes, sets-bytes}
 use Rattle.wire.proofs.Texts.{part-bytes, part-length}
-use Rattle.positions.specs.Positions.{positionWidth, positionPlace, HasRow, positionAt, magnitude, mostPosition, hasRoom, roomForAll, gains, loses, pays}
+use Rattle.positions.specs.Positions.{positionWidth, positionPlace, HasRow, rows, fits, positionAt, magnitude, mostPosition, hasRoom, roomForAll, gains, loses, pays}
 
 -- ---- an amount moved: the row, and the others
 
@@ -104,6 +104,14 @@ module _ (p : List ℕ) (i c : ℕ) where
         ∙ ap (sets p (positionPlace i)) (sym (bytes-mod positionWidth more) ∙ ap (bytesOf positionWidth) again)
         ∙ stored-same p i bytes row
 
+-- ---- a payment: as many bytes, and bytes still
+
+pub pays-length : (p : List ℕ) (s t c : ℕ) → length (pays p s t c) ≡ length p
+pays-length p s t c = gains-length (loses p s c) t c ∙ loses-length p s c
+
+pub pays-bytes : (p : List ℕ) (s t c : ℕ) → Bytes p → Bytes (pays p s t c)
+pays-bytes p s t c bytes = gains-bytes (loses p s c) t c (loses-bytes p s c bytes)
+
 -- ---- the same numbers as the code has them: wrapped already
 
 pub gain-stored : (p : List ℕ) (i c held w : ℕ) → held ≡ positionAt p i → w ≡ (held + c) % 2 ^ 64
@@ -118,6 +126,25 @@ loss-stored p i c held w eh back below small =
     let wrapped : w ≡ (held + (2 ^ 64 - c)) % 2 ^ 64 = omega arith in
     rw (wrapped, eh, bytes-mod positionWidth (positionAt p i + (2 ^ 64 - c)))
 
+-- ---- as many as the rows
+
+-- the test without a product that could wrap
+pub fits-test : (p : List ℕ) (n : ℕ) → (eqb (length p / positionWidth) n && eqb (length p % positionWidth) 0) ≡ fits p n
+fits-test p n = by-test (eqb (length p / positionWidth) n) refl (eqb (length p % positionWidth) 0) refl
+  where
+    by-test : (s : Bool) → eqb (length p / positionWidth) n ≡ s → (t : Bool) → eqb (length p % positionWidth) 0 ≡ t → (s && t) ≡ fits p n
+    by-test true many true whole =
+        sym (eq-eqb (length p) (positionWidth * n) (omega (arith, eqb-true (length p / positionWidth) n many, eqb-true (length p % positionWidth) 0 whole)))
+    by-test true many false left =
+        sym (ne-eqb (length p) (positionWidth * n) (λ (e : length p ≡ positionWidth * n). eqb-false (length p % positionWidth) 0 left (omega arith)))
+    by-test false few t whole =
+        sym (ne-eqb (length p) (positionWidth * n) (λ (e : length p ≡ positionWidth * n). eqb-false (length p / positionWidth) n few (omega arith)))
+
+-- past the last row there is nothing
+pub position-past : (p : List ℕ) (i : ℕ) → rows p < i → positionAt p i ≡ 0
+unfolding numberFrom
+position-past p i h = let past : length p ≤ positionPlace i = omega arith in rw (drop-of-length-le p past)
+
 -- ---- magnitude
 
 pub magnitude-low : (x : ℕ) → x < 2 ^ 63 → magnitude x ≡ x
@@ -125,6 +152,10 @@ magnitude-low x h = rw (lt-ltb x (2 ^ 63) h)
 
 pub magnitude-high : (x : ℕ) → 2 ^ 63 ≤ x → magnitude x ≡ 2 ^ 64 - x
 magnitude-high x h = rw (le-ltb x (2 ^ 63) h)
+
+-- 0 less the bits, wrapped
+pub magnitude-wrapped : (x w : ℕ) → 2 ^ 63 ≤ x → x < 2 ^ 64 → w < 2 ^ 64 → (w + x) % 2 ^ 64 ≡ 0 → w ≡ magnitude x
+magnitude-wrapped x w high below small back = (let whole : w ≡ 2 ^ 64 - x = omega arith in whole) ∙ sym (magnitude-high x high)
 
 -- ---- room
 
@@ -145,12 +176,12 @@ module _ (p : List ℕ) (c i : ℕ) where
   -- room for all is room at each row
   pub room-each : roomForAll p c ≡ true → HasRow p i → hasRoom p c i ≡ true
   unfolding roomForAll
-  room-each all row = every-holds (hasRoom p c) (length p / positionWidth) 0 i all (omega arith) (omega arith)
+  room-each all row = every-holds (hasRoom p c) (rows p) 0 i all (omega arith) (omega arith)
 
 -- a loop at row i of n: what is left of the scan
 abbrev pub roomLeft : List ℕ → ℕ → ℕ → ℕ → Bool
 roomLeft p c n i = everyFrom (hasRoom p c) (n - i) i
 
-pub room-start : (p : List ℕ) (c : ℕ) → roomLeft p c (length p / positionWidth) 0 ≡ roomForAll p c
+pub room-start : (p : List ℕ) (c n : ℕ) → n ≡ rows p → roomLeft p c n 0 ≡ roomForAll p c
 unfolding roomForAll
-room-start p c = rw sub-zero
+room-start p c n e = rw (e, sub-zero)

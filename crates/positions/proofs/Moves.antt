@@ -15,8 +15,8 @@ use borrow.Author.Tests.{le-leb, eq-eqb, ne-eqb}
 use Rattle.wire.specs.Field.{Bytes}
 use Rattle.wire.specs.Places.{everyFrom}
 use Rattle.wire.proofs.Sides.{le-or-lt}
-use Rattle.positions.specs.Positions.{positionWidth, HasRow, positionAt, signed, magnitude, mostPosition, hasRoom, roomForAll, loses, pays}
-use Rattle.positions.proofs.Laws.{position-below, gains-length, loses-length, gains-here, gains-other, loses-here, loses-other, moved-back, room-told, room-each}
+use Rattle.positions.specs.Positions.{HasRow, rows, positionAt, signed, magnitude, mostPosition, hasRoom, roomForAll, loses, pays}
+use Rattle.positions.proofs.Laws.{position-below, loses-length, pays-length, gains-here, gains-other, loses-here, loses-other, moved-back, room-told, room-each}
 use Rattle.positions.proofs.Whole.{sub-pos, sub-neg, signed-magnitude, bits-gain, bits-loss, loses-exact}
 
 -- ---- a sum lies no further from 0 than its parts together
@@ -65,7 +65,7 @@ pub room-all : (p : List ℕ) (c : ℕ) → ((i : ℕ) → HasRow p i → magnit
     → roomForAll p c ≡ true
 unfolding roomForAll
 room-all p c h =
-    every-all (hasRoom p c) (length p / positionWidth) 0
+    every-all (hasRoom p c) (rows p) 0
     (λ k low high. le-leb (magnitude (positionAt p k) + c) mostPosition (h k (omega arith)))
 
 -- room for more is room for less
@@ -96,7 +96,7 @@ moved-room p s t c d bytes from to all = one (ℕ-discrete s t)
         rw (← e, moved-back p s c from bytes (let told = held s from in omega arith)) (room-less p (c + d) d all (omega arith))
     one (no apart) =
         room-all (pays p s t c) d
-        (λ j row. each apart j (rw (gains-length (loses p s c) t c, loses-length p s c) at row) (ℕ-discrete t j))
+        (λ j row. each apart j (rw (pays-length p s t c) at row) (ℕ-discrete t j))
 
 -- ---- a payment as whole numbers
 

@@ -1,10 +1,10 @@
 -- Positions: 8 bytes for each row of the table, a signed number of cents in two's complement. Assumes nothing.
 use Prim.Native.Nat.{ℕ, _+_, _-_, _*_, _/_, _^_, _≤_}
-use mathlib.Core.Bool.{Bool, cond}
+use mathlib.Core.Bool.{Bool, cond, not}
 use mathlib.Core.List.{List}
 use lib.ListN.{length}
 use lib.Seq.{sets}
-use lib.Dec.{leb, ltb}
+use lib.Dec.{leb, ltb, eqb}
 use lib.IntN.{ℤ, pos, _-ℤ_}
 use Rattle.wire.specs.Field.{numberAt, bytesOf}
 use Rattle.wire.specs.Places.{everyFrom}
@@ -19,17 +19,31 @@ positionPlace i = positionWidth * i
 abbrev pub HasRow : List ℕ → ℕ → Type 0
 HasRow positions i = positionPlace i + positionWidth ≤ length positions
 
+-- the whole rows that they hold, and that they are those of so many rows
+abbrev pub rows : List ℕ → ℕ
+rows positions = length positions / positionWidth
+
+abbrev pub fits : List ℕ → ℕ → Bool
+fits positions n = eqb (length positions) (positionWidth * n)
+
 -- the position of row i, as its 64 bits
 abbrev pub positionAt : List ℕ → ℕ → ℕ
 positionAt positions i = numberAt positions (positionPlace i) positionWidth
 
--- the whole number that 64 bits in two's complement stand for
+-- ---- 64 bits in two's complement: the upper half of them stands for what they lack to 2 ^ 64, below 0
+
+abbrev pub negative : ℕ → Bool
+negative bits = not (ltb bits (2 ^ 63))
+
+-- the whole number that they stand for
 abbrev pub signed : ℕ → ℤ
-signed bits = cond (ltb bits (2 ^ 63)) (pos bits) (pos bits -ℤ pos (2 ^ 64))
+signed bits = cond (negative bits) (pos bits -ℤ pos (2 ^ 64)) (pos bits)
 
 -- what it lies away from 0
 abbrev pub magnitude : ℕ → ℕ
-magnitude bits = cond (ltb bits (2 ^ 63)) bits (2 ^ 64 - bits)
+magnitude bits = cond (negative bits) (2 ^ 64 - bits) bits
+
+-- ---- room
 
 -- what no position may come to pass
 abbrev pub mostPosition : ℕ
@@ -40,7 +54,9 @@ abbrev pub hasRoom : List ℕ → ℕ → ℕ → Bool
 hasRoom positions cents i = leb (magnitude (positionAt positions i) + cents) mostPosition
 
 unfoldable pub roomForAll : List ℕ → ℕ → Bool
-roomForAll positions cents = everyFrom (hasRoom positions cents) (length positions / positionWidth) 0
+roomForAll positions cents = everyFrom (hasRoom positions cents) (rows positions) 0
+
+-- ---- payments
 
 -- row i with so many cents more, or less: bytesOf drops what passes 64 bits, as two's complement does
 unfoldable pub gains : List ℕ → ℕ → ℕ → List ℕ

@@ -10,7 +10,7 @@ use lib.ListN.{length, take, replicate, length-replicate}
 use borrow.Author.Tests.{le-leb, eq-eqb}
 use Rattle.wire.specs.Field.{text, bytesOf, numberFrom, same}
 use Rattle.wire.specs.Places.{firstFrom}
-use Rattle.register.specs.Register.{entry, messageTag, bulkTag, mostEntries, wellFormed, entriesTo, entriesOf, search, stands, add}
+use Rattle.register.specs.Register.{identifierWidth, keyWidth, key, entryWidth, entry, messageTag, bulkTag, mostEntries, usedWidth, wellFormed, entriesTo, keysOf, search, stands, add}
 
 -- ---- the form: so many bytes, the first four of which say so many are used
 
@@ -49,14 +49,14 @@ formsRight = refl
 
 -- the most entries, and one more: too long to write out, so by their number
 spacious : ℕ → List ℕ
-spacious n = bytesOf 4 0 ++ replicate (44 * n) 7
+spacious n = bytesOf 4 0 ++ replicate (entryWidth * n) 7
 
 spacious-formed : (n : ℕ) → wellFormed (spacious n) ≡ leb n mostEntries
 unfolding wellFormed spacious bytesOf numberFrom
 spacious-formed n =
-    let long : length (spacious n) ≡ 4 + 44 * n = omega (arith, length-replicate {A = ℕ} (44 * n) 7) in
-    let count : (4 + 44 * n - 4) / 44 ≡ n = omega arith in
-    rw (long, count, le-leb 4 (4 + 44 * n) (omega arith), eq-eqb (4 + 44 * n) (4 + 44 * n) refl, le-leb 0 n (omega arith))
+    let long : length (spacious n) ≡ usedWidth + entryWidth * n = omega (arith, length-replicate {A = ℕ} (entryWidth * n) 7) in
+    let count : (usedWidth + entryWidth * n - usedWidth) / entryWidth ≡ n = omega arith in
+    rw (long, count, le-leb usedWidth (usedWidth + entryWidth * n) (omega arith), eq-eqb (usedWidth + entryWidth * n) (usedWidth + entryWidth * n) refl, le-leb 0 n (omega arith))
     (and-true (leb n mostEntries))
 
 mostRight : (wellFormed (spacious 60000) ≡ true) × (wellFormed (spacious 60001) ≡ false)
@@ -65,15 +65,15 @@ mostRight = (spacious-formed 60000, spacious-formed 60001)
 -- ---- the search: of four places the first three are used
 
 named : String → String → ℕ → List ℕ
-named sender identifier tag = entry (text sender) (text identifier ++ replicate (35 - length (text identifier)) 32) tag
+named sender identifier tag = key (text sender) (text identifier ++ replicate (identifierWidth - length (text identifier)) 32) tag
 
 joined : List (List ℕ) → List ℕ
 joined [] = []
-joined (x ∷ xs) = x ++ joined xs
+joined (k ∷ ks) = entry k ++ joined ks
 
--- the entries in use, and those that stand past them
+-- the entries in use, and those that stand past them, told by their keys
 registerOf : List (List ℕ) → List (List ℕ) → List ℕ
-registerOf es rest = bytesOf 4 (length es) ++ joined es ++ joined rest
+registerOf ks rest = bytesOf usedWidth (length ks) ++ joined ks ++ joined rest
 
 used : List (List ℕ)
 used = named "AAAALV22" "T1" messageTag ∷ named "BBBBLV22" "T2" messageTag ∷ named "AAAALV22" "D1" bulkTag ∷ []
@@ -102,21 +102,21 @@ searches =
     ∷ look "AAAALV22" "T" messageTag false
     -- past the number used nothing has a meaning
     ∷ look "AAAALV22" "T3" messageTag false
-    -- no entry: too short
+    -- no key: too short
     ∷ record { looked = []; found = false }
     ∷ []
 
 searchesRight : map (λ q. stands (registerOf used (past ∷ [])) (q .looked)) searches ≡ map (λ q. q .found) searches
-unfolding searches look used past registerOf joined named bytesOf stands search firstFrom numberFrom same
+unfolding searches look used past registerOf joined named entry bytesOf stands search firstFrom numberFrom same
 searchesRight = refl
 
-entriesRight : entriesOf (registerOf used (past ∷ [])) ≡ used
-unfolding used past registerOf joined named bytesOf entriesTo numberFrom
-entriesRight = refl
+keysRight : keysOf (registerOf used (past ∷ [])) ≡ used
+unfolding used past registerOf joined named entry bytesOf entriesTo numberFrom
+keysRight = refl
 
 -- ---- adding: over what stood past the number used, and at the last place
 
-addedRight : map (λ r. add r past) (registerOf [] (past ∷ past ∷ []) ∷ registerOf used (replicate 44 7 ∷ []) ∷ registerOf used (replicate 44 7 ∷ past ∷ []) ∷ [])
+addedRight : map (λ r. add r past) (registerOf [] (past ∷ past ∷ []) ∷ registerOf used (replicate keyWidth 7 ∷ []) ∷ registerOf used (replicate keyWidth 7 ∷ past ∷ []) ∷ [])
     ≡ registerOf (past ∷ []) (past ∷ []) ∷ registerOf (used ++ (past ∷ [])) [] ∷ registerOf (used ++ (past ∷ [])) (past ∷ []) ∷ []
-unfolding used past registerOf joined named bytesOf add numberFrom
+unfolding used past registerOf joined named entry bytesOf add numberFrom
 addedRight = refl

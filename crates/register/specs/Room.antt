@@ -4,10 +4,10 @@ use mathlib.Core.Path.{_≡_}
 use mathlib.Core.Bool.{Bool, true}
 use mathlib.Core.List.{List}
 use lib.ListN.{length}
-use Rattle.register.specs.Register.{senderWidth, identifierWidth, entryWidth, mostEntries, room, used, wellFormed}
+use Rattle.register.specs.Register.{senderWidth, identifierWidth, usedWidth, entryWidth, mostEntries, room, used, wellFormed}
 
 pub record Formed (register : List ℕ) : Type 0 where
-  pub whole : length register ≡ 4 + entryWidth * room register
+  pub whole : length register ≡ usedWidth + entryWidth * room register
   pub few : room register ≤ mostEntries
   pub within : used register ≤ room register
 
@@ -15,7 +15,7 @@ pub record FormTold (register : List ℕ) (told : Bool) : Type 0 where
   pub is : told ≡ wellFormed register
   pub formed : told ≡ true → Formed register
 
--- the parts that an entry is put together from have their widths
+-- the parts that a key is put together from have their widths
 pub record Parts (sender identifier : List ℕ) : Type 0 where
   pub senderWide : length sender ≡ senderWidth
   pub identifierWide : length identifier ≡ identifierWidth

@@ -1,13 +1,25 @@
-// The register of used identifiers: its form, the search of an entry, and adding one. It knows nothing of what an identifier means.
+// The register of used identifiers: its form, the search of a key, and adding one. It knows nothing of what an identifier means.
 ghost use mathlib.Core.Path.{_≡_};
-ghost use Rattle.register.specs.Register.{entry, used, room, free, stands, add};
+ghost use Rattle.register.specs.Register.{key, used, room, free, stands, add};
 ghost use Rattle.register.specs.Room.{FormTold, Parts};
+
+// The tag of a message's key, and of a bulk's.
+pub const MESSAGE: u8 = 1;
+
+pub const BULK: u8 = 2;
 
 const SENDER_WIDTH: usize = 8;
 
-const TAG_PLACE: usize = 43;
+const IDENTIFIER_WIDTH: usize = 35;
 
-const ENTRY_WIDTH: usize = 44;
+const TAG_PLACE: usize = SENDER_WIDTH + IDENTIFIER_WIDTH;
+
+pub const KEY_WIDTH: usize = TAG_PLACE + 1;
+
+// An entry is its key alone.
+const ENTRY_WIDTH: usize = KEY_WIDTH;
+
+const USED_WIDTH: usize = 4;
 
 const MOST_ENTRIES: usize = 60000;
 
@@ -22,7 +34,7 @@ pub fn used(register: &[u8]) -> u32
 fn room(register: &[u8]) -> usize
     ensures { λ r. ⌜ r ≡ room (now (register .entry)) ⌝ }
 {
-    (register.len() - wire::least(4, register.len())) / ENTRY_WIDTH
+    (register.len() - wire::least(USED_WIDTH, register.len())) / ENTRY_WIDTH
 }
 
 // The places that are not in use.
@@ -38,32 +50,35 @@ pub fn well_formed(register: &[u8]) -> bool
     ensures { λ r. ⌜ FormTold (now (register .entry)) r ⌝ }
 {
     let all = room(register);
-    let whole = register.len() == 4 + ENTRY_WIDTH * all;
-    (4 <= register.len()) & whole & (all <= MOST_ENTRIES) & (used(register) as usize <= all)
+    let whole = register.len() == USED_WIDTH + ENTRY_WIDTH * all;
+    (USED_WIDTH <= register.len())
+        & whole
+        & (all <= MOST_ENTRIES)
+        & (used(register) as usize <= all)
 }
 
-// An entry, put together: sender, identifier, tag.
-pub fn entry_of(sender: &[u8], identifier: &[u8], tag: u8) -> [u8; ENTRY_WIDTH]
+// A key, put together: sender, identifier, tag.
+pub fn key_of(sender: &[u8], identifier: &[u8], tag: u8) -> [u8; KEY_WIDTH]
     requires { ⌜ Parts (now sender) (now identifier) ⌝ }
-    ensures { λ r. ⌜ r ≡ entry (now (sender .entry)) (now (identifier .entry)) tag ⌝ }
+    ensures { λ r. ⌜ r ≡ key (now (sender .entry)) (now (identifier .entry)) tag ⌝ }
 {
-    let mut made = [0u8; ENTRY_WIDTH];
+    let mut made = [0u8; KEY_WIDTH];
     wire::put_text(&mut made, 0, sender);
     wire::put_text(&mut made, SENDER_WIDTH, identifier);
     made[TAG_PLACE] = tag;
     made
 }
 
-// Whether the entry stands in the register. The search reads no entry past those in use.
-pub fn stands(register: &[u8], looked: &[u8]) -> bool
-    ensures { λ r. ⌜ r ≡ stands (now (register .entry)) (now (looked .entry)) ⌝ }
+// Whether an entry has the key. The search reads no entry past those in use.
+pub fn stands(register: &[u8], key: &[u8]) -> bool
+    ensures { λ r. ⌜ r ≡ stands (now (register .entry)) (now (key .entry)) ⌝ }
 {
     let n = wire::least(used(register) as usize, room(register));
     let mut k = 0;
     while k < n {
-        let at = 4 + ENTRY_WIDTH * k;
-        let end = at + ENTRY_WIDTH;
-        if wire::same(&register[at..end], looked) {
+        let at = USED_WIDTH + ENTRY_WIDTH * k;
+        let end = at + KEY_WIDTH;
+        if wire::same(&register[at..end], key) {
             return true;
         }
         k += 1;
@@ -71,11 +86,11 @@ pub fn stands(register: &[u8], looked: &[u8]) -> bool
     false
 }
 
-// Adds an entry at the first place that is not in use.
-pub fn add(register: &mut [u8], new: &[u8])
-    ensures { λ _. ⌜ now (register .exit) ≡ add (now (register .entry)) (now (new .entry)) ⌝ }
+// Adds the entry of a key at the first place that is not in use.
+pub fn add(register: &mut [u8], key: &[u8])
+    ensures { λ _. ⌜ now (register .exit) ≡ add (now (register .entry)) (now (key .entry)) ⌝ }
 {
     let k = used(register) as usize;
-    wire::put_text(register, 4 + ENTRY_WIDTH * k, new);
-    wire::put_number(register, 0, 4, k as u64 + 1);
+    wire::put_text(register, USED_WIDTH + ENTRY_WIDTH * k, key);
+    wire::put_number(register, 0, USED_WIDTH, k as u64 + 1);
 }

@@ -6,8 +6,8 @@ use Prim.Native.Nat.{ℕ, _+_, _^_, _-_}
 use Prim.Native.String.{String}
 use lib.ListN.{replicate, drop}
 use Rattle.wire.specs.Field.{text, bytesOf}
-use Rattle.report.specs.Tally.{Totals, nothing, withAccepted, withRejected}
-use Rattle.report.specs.Line.{bulkLine, messageLine, reportLength}
+use Rattle.tally.specs.Tally.{Totals, nothing, withAccepted, withRejected}
+use Rattle.report.specs.Line.{messageLineWidth, bulkLine, messageLine, reportLength}
 
 -- two characters and the spaces that pad them
 named : String → List ℕ
@@ -49,5 +49,5 @@ cases =
     ∷ []
 
 casesRight : map (λ c. c .made) cases ≡ map (λ c. c .bytes) cases
-unfolding cases same huge whole named bulkLine messageLine bytesOf
+unfolding cases same huge whole named messageLineWidth bulkLine messageLine bytesOf
 casesRight = refl

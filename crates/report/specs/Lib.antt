@@ -1,3 +1,2 @@
-pub mod Tally
-pub mod Room
 pub mod Line
+pub mod Told

@@ -1,6 +1,7 @@
--- The laws of the table and of the lookup that the proofs of this crate share. Assumes nothing.
+-- The laws of the table and of the lookup that the crates above cite, and those that the proofs here share. Assumes nothing.
+use Prim.Native.Char.{code}
 use mathlib.Core.Path.{_≡_, refl, sym, ap, _∙_}
-use mathlib.Core.Bool.{Bool, true, false, _&&_, false≢true}
+use mathlib.Core.Bool.{Bool, true, false, cond, _&&_, false≢true}
 use mathlib.Core.List.{List, [], _∷_, _++_}
 use mathlib.Core.Option.{Option, none, some}
 use Prim.Native.Nat.{ℕ, zero, suc, _+_, _-_, _*_, _/_, _≤_, _<_}
@@ -13,32 +14,34 @@ use borrow.Author.Tests.{leb-true, eqb-true, eq-eqb, ne-eqb}
 use Rattle.wire.specs.Field.{part, same}
 use Rattle.wire.specs.Places.{firstFrom, everyFrom}
 use Rattle.wire.proofs.Numbers.{one-read}
+use Rattle.wire.proofs.Scans.{first-found}
 use Rattle.wire.proofs.Texts.{part-short}
 use Rattle.calendar.specs.Date.{isDate}
-use Rattle.routing.specs.Table.{rowAt, rowWidth, mostRows, rows, statedRows, knownKind, bicAt, kindAt, kindsKnown, wellFormed}
+use Rattle.routing.specs.Table.{institutionWidth, branchWidth, bicWidth, kindPlace, rowWidth, countWidth, mostRows, rowAt, rows, statedRows, knownKind, bicAt, kindAt, kindsKnown, wellFormed}
 use Rattle.routing.specs.Promise.{Formed, FormTold, Below}
+use Rattle.routing.specs.declared.Refusal.the-variants.{Date, Table, Bic}
 use Rattle.routing.specs.declared.Found.{Found}
 use Rattle.routing.specs.declared.Found.the-variants.{Row as FoundRow}
-use Rattle.routing.specs.Lookup.{counts, bears, rowOf, xxx, headOffice, isHeadOffice, route, refused, routed, lookup, optionOf}
+use Rattle.routing.specs.Lookup.{counts, bears, rowOf, xxx, headOffice, isHeadOffice, orElse, route, reachable, participates, refused, routed, lookupNumber, lookup, optionOf}
 
 -- ---- places
 
-kind-read : (table : List ℕ) (i : ℕ) → kindAt table i ≡ getD table (rowAt i + 19) 0
-kind-read table i = one-read table (rowAt i + 19)
+kind-read : (table : List ℕ) (i : ℕ) → kindAt table i ≡ getD table (rowAt i + kindPlace) 0
+kind-read table i = one-read table (rowAt i + kindPlace)
 
 -- past the last whole row there is no kind
 pub kind-past : (table : List ℕ) (i : ℕ) → rows table ≤ i → kindAt table i ≡ 0
 kind-past table i h = kind-read table i ∙ List·getD-eq-default table 0 (omega arith)
 
-pub kind-there : (table : List ℕ) (i : ℕ) → getD table (4 + 20 * i + 19) 0 ≡ kindAt table i
+pub kind-there : (table : List ℕ) (i : ℕ) → getD table (rowAt i + kindPlace) 0 ≡ kindAt table i
 kind-there table i = sym (kind-read table i)
 
 -- a well formed table is its count, and as many whole rows
 form-told : (table : List ℕ) → wellFormed table ≡ true → Formed table
 unfolding wellFormed
 form-told table e =
-    let parts = three (leb 4 (length table)) (eqb (length table) (4 + rowWidth * statedRows table)) (leb (statedRows table) mostRows) (kindsKnown table) e in
-    let long : length table ≡ 4 + rowWidth * statedRows table = eqb-true (length table) (4 + rowWidth * statedRows table) (parts .0) in
+    let parts = three (leb countWidth (length table)) (eqb (length table) (countWidth + rowWidth * statedRows table)) (leb (statedRows table) mostRows) (kindsKnown table) e in
+    let long : length table ≡ countWidth + rowWidth * statedRows table = eqb-true (length table) (countWidth + rowWidth * statedRows table) (parts .0) in
     let few : statedRows table ≤ mostRows = leb-true (statedRows table) mostRows (parts .1) in
     let counted : rows table ≡ statedRows table = rw long (mul-left-then-div (statedRows table)) in
     record { whole = rw counted long; few = rw counted few }
@@ -49,7 +52,7 @@ form-told table e =
     three true false c d e = absurd (false≢true e)
     three false b c d e = absurd (false≢true e)
 
-    mul-left-then-div : (k : ℕ) → (4 + rowWidth * k - 4) / rowWidth ≡ k
+    mul-left-then-div : (k : ℕ) → (countWidth + rowWidth * k - countWidth) / rowWidth ≡ k
     mul-left-then-div k = omega arith
 
 pub formed-told : (table : List ℕ) (told : Bool) → told ≡ wellFormed table → FormTold table told
@@ -75,9 +78,9 @@ unfolding rowOf
 row-start date table bic n e = rw (e, sub-zero)
 
 -- a row that does not bear the BIC need not be asked whether it counts
-module _ (date : ℕ) (table bic : List ℕ) (i : ℕ) (t : Bool) (tested : t ≡ same (take (rowAt i + 11 - rowAt i) (drop (rowAt i) table)) bic) where
+module _ (date : ℕ) (table bic : List ℕ) (i : ℕ) (t : Bool) (tested : t ≡ same (take (rowAt i + bicWidth - rowAt i) (drop (rowAt i) table)) bic) where
   named : t ≡ same (bicAt table i) bic
-  named = rw (add-sub-cancel-left (rowAt i) 11) at tested
+  named = rw (add-sub-cancel-left (rowAt i) bicWidth) at tested
 
   pub bears-named : t ≡ true → counts date table i ≡ bears date table bic i
   bears-named e = rw (← named, e)
@@ -86,6 +89,9 @@ module _ (date : ℕ) (table bic : List ℕ) (i : ℕ) (t : Bool) (tested : t �
   bears-not-named e = rw (← named, e)
 
 -- ---- the head office, written over a row of X
+
+abbrev x : ℕ
+x = code "X"
 
 drop-replicate : (k n a : ℕ) → drop k (replicate n a) ≡ replicate (n - k) a
 drop-replicate zero n a = rw sub-zero
@@ -97,20 +103,20 @@ three-left m a h =
     let more : m ≡ 3 + (m - 3) = omega arith in
     rw (more, ← (replicate-append-replicate 3 (m - 3) a)) (take-at (replicate 3 a) (replicate (3 + (m - 3) - 3) a) 3 refl)
 
-pub head-length : (bic front head : List ℕ) → front ≡ part bic 0 8 → head ≡ sets (replicate 11 88) 0 front → length front + 3 ≤ length head
+pub head-length : (bic front head : List ℕ) → front ≡ part bic 0 institutionWidth → head ≡ sets (replicate bicWidth x) 0 front → length front + branchWidth ≤ length head
 head-length bic front head ef eh =
-    let long : length head ≡ 11 = ap length eh ∙ length-sets (replicate 11 88) 0 front in
-    let short : length front ≤ 8 = rw ef (part-short bic 0 8) in
+    let long : length head ≡ bicWidth = ap length eh ∙ length-sets (replicate bicWidth x) 0 front in
+    let short : length front ≤ institutionWidth = rw ef (part-short bic 0 institutionWidth) in
     omega arith
 
-pub head-written : (bic front head : List ℕ) → front ≡ part bic 0 8 → head ≡ sets (replicate 11 88) 0 front
-    → take (length front + 3) head ≡ headOffice bic
+pub head-written : (bic front head : List ℕ) → front ≡ part bic 0 institutionWidth → head ≡ sets (replicate bicWidth x) 0 front
+    → take (length front + branchWidth) head ≡ headOffice bic
 head-written bic front head ef eh =
-    let short : length front ≤ 8 = rw ef (part-short bic 0 8) in
-    ap (take (length front + 3)) (eh ∙ sets-eq front (replicate 11 88) 0 (omega arith))
-    ∙ take-append-add front (drop (0 + length front) (replicate 11 88)) 3
-    ∙ ap (λ (l : List ℕ). front ++ take 3 l) (ap (λ (k : ℕ). drop k (replicate 11 88)) (zero-add (length front)) ∙ drop-replicate (length front) 11 88)
-    ∙ ap (λ (l : List ℕ). front ++ l) (three-left (11 - length front) 88 (omega arith))
+    let short : length front ≤ institutionWidth = rw ef (part-short bic 0 institutionWidth) in
+    ap (take (length front + branchWidth)) (eh ∙ sets-eq front (replicate bicWidth x) 0 (omega arith))
+    ∙ take-append-add front (drop (0 + length front) (replicate bicWidth x)) 3
+    ∙ ap (λ (l : List ℕ). front ++ take 3 l) (ap (λ (k : ℕ). drop k (replicate bicWidth x)) (zero-add (length front)) ∙ drop-replicate (length front) bicWidth x)
+    ∙ ap (λ (l : List ℕ). front ++ l) (three-left (bicWidth - length front) x (omega arith))
     ∙ ap (λ (l : List ℕ). l ++ xxx) ef
 
 -- ---- the three ways of a route
@@ -130,24 +136,50 @@ module _ (date : ℕ) (table bic : List ℕ) where
 
   -- ---- the five ways of a question
 
-  pub lookup-date : isDate date ≡ false → refused 1 ≡ lookup date table bic
+  pub lookup-date : isDate date ≡ false → refused (lookupNumber Date) ≡ lookup date table bic
   unfolding lookup
   lookup-date e = rw e
 
   module _ (dated : isDate date ≡ true) where
-    pub lookup-table : wellFormed table ≡ false → refused 2 ≡ lookup date table bic
+    pub lookup-table : wellFormed table ≡ false → refused (lookupNumber Table) ≡ lookup date table bic
     unfolding lookup
     lookup-table e = rw (dated, e)
 
     module _ (formed : wellFormed table ≡ true) where
-      pub lookup-bic : (length bic ≡ 11 → ⊥) → refused 18 ≡ lookup date table bic
+      pub lookup-bic : (length bic ≡ bicWidth → ⊥) → refused (lookupNumber Bic) ≡ lookup date table bic
       unfolding lookup
-      lookup-bic e = rw (dated, formed, ne-eqb (length bic) 11 e)
+      lookup-bic e = rw (dated, formed, ne-eqb (length bic) bicWidth e)
 
-      pub lookup-row : length bic ≡ 11 → (found : Option ℕ) → found ≡ route date table bic → routed table found ≡ lookup date table bic
+      pub lookup-row : length bic ≡ bicWidth → (found : Option ℕ) → found ≡ route date table bic → routed table found ≡ lookup date table bic
       unfolding lookup
-      lookup-row long found e = rw (dated, formed, eq-eqb (length bic) 11 long, e)
+      lookup-row long found e = rw (dated, formed, eq-eqb (length bic) bicWidth long, e)
 
--- a row that was found is a row of the table
-pub row-below : (table : List ℕ) (found : Found) (i : ℕ) → found ≡ FoundRow i → Below (rows table) (optionOf found) → i < rows table
-row-below table found i e within = rw e at within
+-- ---- a row that was found is a row of the table
+
+pub row-below : (date : ℕ) (table bic : List ℕ) (i : ℕ) → rowOf date table bic ≡ some i → i < rows table
+unfolding rowOf
+row-below date table bic i e = let found = first-found (bears date table bic) (rows table) 0 i e in omega (arith, found .1)
+
+pub route-below : (date : ℕ) (table bic : List ℕ) (i : ℕ) → route date table bic ≡ some i → i < rows table
+unfolding route
+route-below date table bic i e = own (rowOf date table bic) refl e
+  where
+    office : (t : Bool) → cond t none (rowOf date table (headOffice bic)) ≡ some i → i < rows table
+    office true e = absurd (let z : _≡_ {A = ℕ} 0 1 = cc in omega arith)
+    office false e = row-below date table (headOffice bic) i e
+
+    own : (r : Option ℕ) → rowOf date table bic ≡ r → orElse r (cond (isHeadOffice bic) none (rowOf date table (headOffice bic))) ≡ some i → i < rows table
+    own none found e = office (isHeadOffice bic) e
+    own (some j) found e = let same : j ≡ i = cc in rw (← same) (row-below date table bic j found)
+
+-- only a row that was found is reachable, or participates
+pub reachable-row : (table : List ℕ) (found : Option ℕ) → reachable table found ≡ true → (i : ℕ) × (found ≡ some i)
+reachable-row table none e = absurd (false≢true e)
+reachable-row table (some i) e = (i, refl)
+
+pub participates-row : (table : List ℕ) (found : Option ℕ) → participates table found ≡ true → (i : ℕ) × (found ≡ some i)
+participates-row table none e = absurd (false≢true e)
+participates-row table (some i) e = (i, refl)
+
+pub found-below : (table : List ℕ) (found : Found) (i : ℕ) → found ≡ FoundRow i → Below (rows table) (optionOf found) → i < rows table
+found-below table found i e within = rw e at within

@@ -8,7 +8,7 @@ use lib.Dec.{leb, eqb}
 use Rattle.wire.specs.Field.{bit, text, part, same}
 use Rattle.wire.specs.Places.{firstFrom}
 use Rattle.calendar.specs.Date.{isDate}
-use Rattle.routing.specs.Table.{rows, bicWidth, bicAt, firstDate, lastDate, kindAt, wellFormed}
+use Rattle.routing.specs.Table.{institutionWidth, branchWidth, bicWidth, notReachable, participant, rows, bicAt, firstDate, lastDate, kindAt, wellFormed}
 use Rattle.routing.specs.declared.Refusal.{Refusal}
 use Rattle.routing.specs.declared.Refusal.the-variants.{Date, Table, Bic}
 use Rattle.routing.specs.declared.Found.{Found}
@@ -35,10 +35,10 @@ abbrev pub xxx : List ℕ
 xxx = text "XXX"
 
 abbrev pub headOffice : List ℕ → List ℕ
-headOffice bic = take 8 bic ++ xxx
+headOffice bic = take institutionWidth bic ++ xxx
 
 abbrev pub isHeadOffice : List ℕ → Bool
-isHeadOffice bic = same (part bic 8 3) xxx
+isHeadOffice bic = same (part bic institutionWidth branchWidth) xxx
 
 abbrev pub orElse : Option ℕ → Option ℕ → Option ℕ
 orElse (some i) other = some i
@@ -48,10 +48,15 @@ orElse none other = other
 unfoldable pub route : ℕ → List ℕ → List ℕ → Option ℕ
 route date table bic = orElse (rowOf date table bic) (cond (isHeadOffice bic) none (rowOf date table (headOffice bic)))
 
--- reachable is a row that was found and whose kind is not 0
+-- a row that was found is reachable unless its kind says that it is not
 abbrev pub reachable : List ℕ → Option ℕ → Bool
 reachable table none = false
-reachable table (some i) = not (eqb (kindAt table i) 0)
+reachable table (some i) = not (eqb (kindAt table i) notReachable)
+
+-- and it participates if its kind says so
+abbrev pub participates : List ℕ → Option ℕ → Bool
+participates table none = false
+participates table (some i) = eqb (kindAt table i) participant
 
 -- ---- the answer
 
@@ -75,26 +80,26 @@ abbrev pub routed : List ℕ → Option ℕ → Routed
 routed table none = missing
 routed table (some i) = rowIs i (reachable table (some i))
 
+abbrev pub lookupNumber : Refusal → ℕ
+lookupNumber Date = 1
+lookupNumber Table = 2
+lookupNumber Bic = 18
+
 -- the refusals in their order, then the row
 unfoldable pub lookup : ℕ → List ℕ → List ℕ → Routed
 lookup date table bic =
-    cond (not (isDate date)) (refused 1)
-    (cond (not (wellFormed table)) (refused 2)
-    (cond (not (eqb (length bic) bicWidth)) (refused 18)
+    cond (not (isDate date)) (refused (lookupNumber Date))
+    (cond (not (wellFormed table)) (refused (lookupNumber Table))
+    (cond (not (eqb (length bic) bicWidth)) (refused (lookupNumber Bic))
     (routed table (route date table bic))))
 
--- ---- the numbers and values for the cases of the enums
+-- ---- the values of the enums
 
 abbrev pub optionOf : Found → Option ℕ
 optionOf (FoundRow i) = some i
 optionOf Nothing = none
 
-abbrev pub refusalNumber : Refusal → ℕ
-refusalNumber Date = 1
-refusalNumber Table = 2
-refusalNumber Bic = 18
-
 abbrev pub valuesOf : Answer → Routed
-valuesOf (Refused r) = refused (refusalNumber r)
+valuesOf (Refused r) = refused (lookupNumber r)
 valuesOf Missing = missing
 valuesOf (Row i b) = rowIs i b

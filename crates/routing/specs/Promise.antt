@@ -5,14 +5,14 @@ use mathlib.Core.Bool.{Bool, true}
 use mathlib.Core.List.{List}
 use mathlib.Core.Option.{Option, none, some}
 use lib.ListN.{length}
-use Rattle.routing.specs.Table.{rowWidth, mostRows, rows, wellFormed}
+use Rattle.routing.specs.Table.{rowWidth, countWidth, mostRows, rows, wellFormed}
 use Rattle.routing.specs.Lookup.{Routed, valuesOf}
 use Rattle.routing.specs.declared.Answer.{Answer}
 use Rattle.routing.specs.declared.Answer.the-variants.{Refused, Missing, Row}
 
 -- the test of the form, and what a table that passes it is
 pub record Formed (table : List ℕ) : Type 0 where
-  pub whole : length table ≡ 4 + rowWidth * rows table
+  pub whole : length table ≡ countWidth + rowWidth * rows table
   pub few : rows table ≤ mostRows
 
 pub record FormTold (table : List ℕ) (told : Bool) : Type 0 where

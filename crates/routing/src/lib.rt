@@ -4,15 +4,38 @@ ghost use mathlib.Core.Path.{_≡_};
 ghost use Prim.Native.Nat.{_+_, _≤_};
 ghost use lib.ListN.{length};
 ghost use Rattle.wire.specs.Field.{numberAt};
-ghost use Rattle.routing.specs.Table.{rowAt, rowWidth, rows, knownKind, kindAt, kindsKnown};
+ghost use Rattle.routing.specs.Table.{dateWidth, rowAt, rowWidth, rows, knownKind, kindAt, kindsKnown};
 ghost use Rattle.routing.specs.Promise.{FormTold, RowTold, AnswerTold};
-ghost use Rattle.routing.specs.Lookup.{refusalNumber, optionOf, counts, bears, rowOf, headOffice, route, lookup};
+ghost use Rattle.routing.specs.Lookup.{lookupNumber, optionOf, counts, bears, rowOf, headOffice, route, reachable, participates, lookup};
 
-const ROW_WIDTH: usize = 20;
+const INSTITUTION_WIDTH: usize = 8;
 
-const BIC_WIDTH: usize = 11;
+const BRANCH_WIDTH: usize = 3;
+
+const BIC_WIDTH: usize = INSTITUTION_WIDTH + BRANCH_WIDTH;
+
+const DATE_WIDTH: usize = 4;
+
+const FIRST_DATE_PLACE: usize = BIC_WIDTH;
+
+const LAST_DATE_PLACE: usize = FIRST_DATE_PLACE + DATE_WIDTH;
+
+const KIND_PLACE: usize = LAST_DATE_PLACE + DATE_WIDTH;
+
+const ROW_WIDTH: usize = KIND_PLACE + 1;
+
+const COUNT_WIDTH: usize = 4;
 
 const MOST_ROWS: usize = 8192;
+
+// The kinds of a row.
+const NOT_REACHABLE: u8 = 0;
+
+const PARTICIPANT: u8 = 5;
+
+const HOLDER: u8 = 6;
+
+const THROUGH_STEP2: u8 = 20;
 
 // Why a question is turned away.
 pub enum Refusal {
@@ -38,22 +61,23 @@ pub enum Answer {
 pub fn rows(table: &[u8]) -> usize
     ensures { λ r. ⌜ r ≡ rows (now (table .entry)) ⌝ }
 {
-    (table.len() - wire::least(4, table.len())) / ROW_WIDTH
+    (table.len() - wire::least(COUNT_WIDTH, table.len())) / ROW_WIDTH
 }
 
 fn known_kind(kind: u8) -> bool
     ensures { λ r. ⌜ r ≡ knownKind kind ⌝ }
 {
-    (kind == 0) | (kind == 5) | (kind == 6) | (kind == 20)
+    (kind == NOT_REACHABLE) | (kind == PARTICIPANT) | (kind == HOLDER) | (kind == THROUGH_STEP2)
 }
 
-pub fn kind_at(table: &[u8], i: usize) -> u8
+// 0 where the table has no such row.
+fn kind_at(table: &[u8], i: usize) -> u8
     ensures { λ r. ⌜ r ≡ kindAt (now (table .entry)) i ⌝ }
 {
     if rows(table) <= i {
         return 0;
     }
-    table[4 + ROW_WIDTH * i + 19]
+    table[COUNT_WIDTH + ROW_WIDTH * i + KIND_PLACE]
 }
 
 // Whether the table has the form that its layout asks; if not, that is refusal 2.
@@ -61,8 +85,8 @@ pub fn well_formed(table: &[u8]) -> bool
     ensures { λ r. ⌜ FormTold (now (table .entry)) r ⌝ }
 {
     let stated = wire::u32_at(table, 0) as usize;
-    (4 <= table.len())
-        & (table.len() == 4 + ROW_WIDTH * stated)
+    (COUNT_WIDTH <= table.len())
+        & (table.len() == COUNT_WIDTH + ROW_WIDTH * stated)
         & (stated <= MOST_ROWS)
         & kinds_known(table)
 }
@@ -83,10 +107,10 @@ fn kinds_known(table: &[u8]) -> bool
 
 // A date that is known to lie in the table: nothing is clipped, so the search pays for a date only where a row bears the BIC.
 fn date_at(table: &[u8], at: usize) -> u32
-    requires { ⌜ at + 4 ≤ length (now table) ⌝ }
-    ensures { λ r. ⌜ r ≡ numberAt (now (table .entry)) at 4 ⌝ }
+    requires { ⌜ at + dateWidth ≤ length (now table) ⌝ }
+    ensures { λ r. ⌜ r ≡ numberAt (now (table .entry)) at dateWidth ⌝ }
 {
-    let end = at + 4;
+    let end = at + DATE_WIDTH;
     wire::number(&table[at..end]) as u32
 }
 
@@ -94,15 +118,15 @@ fn counts(date: u32, table: &[u8], i: usize) -> bool
     requires { ⌜ rowAt i + rowWidth ≤ length (now table) ⌝ }
     ensures { λ r. ⌜ r ≡ counts date (now (table .entry)) i ⌝ }
 {
-    (date_at(table, 4 + ROW_WIDTH * i + 11) <= date)
-        & (date <= date_at(table, 4 + ROW_WIDTH * i + 15))
+    (date_at(table, COUNT_WIDTH + ROW_WIDTH * i + FIRST_DATE_PLACE) <= date)
+        & (date <= date_at(table, COUNT_WIDTH + ROW_WIDTH * i + LAST_DATE_PLACE))
 }
 
 fn bears(date: u32, table: &[u8], bic: &[u8], i: usize) -> bool
     requires { ⌜ rowAt i + rowWidth ≤ length (now table) ⌝ }
     ensures { λ r. ⌜ r ≡ bears date (now (table .entry)) (now (bic .entry)) i ⌝ }
 {
-    let at = 4 + ROW_WIDTH * i;
+    let at = COUNT_WIDTH + ROW_WIDTH * i;
     let end = at + BIC_WIDTH;
     if wire::same(&table[at..end], bic) {
         counts(date, table, i)
@@ -130,9 +154,9 @@ pub fn row_of(date: u32, table: &[u8], bic: &[u8]) -> Found
 pub fn head_office(date: u32, table: &[u8], bic: &[u8]) -> Found
     ensures { λ r. ⌜ RowTold (now (table .entry)) (optionOf r) (rowOf date (now (table .entry)) (headOffice (now (bic .entry)))) ⌝ }
 {
-    let mut head = [88u8; BIC_WIDTH];
-    let front = wire::text_at(bic, 0, 8);
-    let n = front.len() + 3;
+    let mut head = [b'X'; BIC_WIDTH];
+    let front = wire::text_at(bic, 0, INSTITUTION_WIDTH);
+    let n = front.len() + BRANCH_WIDTH;
     wire::put_text(&mut head, 0, front);
     row_of(date, table, &head[..n])
 }
@@ -145,12 +169,32 @@ pub fn route(date: u32, table: &[u8], bic: &[u8]) -> Found
     match own {
         Found::Row(i) => Found::Row(i),
         Found::Nothing => {
-            if wire::same(wire::text_at(bic, 8, 3), b"XXX") {
+            if wire::same(wire::text_at(bic, INSTITUTION_WIDTH, BRANCH_WIDTH), b"XXX") {
                 Found::Nothing
             } else {
                 head_office(date, table, bic)
             }
         }
+    }
+}
+
+// Whether a row was found and its kind doesn't say that it is not reachable.
+pub fn reachable(table: &[u8], row: Found) -> bool
+    ensures { λ r. ⌜ r ≡ reachable (now (table .entry)) (optionOf row) ⌝ }
+{
+    match row {
+        Found::Row(i) => kind_at(table, i) != NOT_REACHABLE,
+        Found::Nothing => false,
+    }
+}
+
+// Whether a row was found and is a participant's.
+pub fn participates(table: &[u8], row: Found) -> bool
+    ensures { λ r. ⌜ r ≡ participates (now (table .entry)) (optionOf row) ⌝ }
+{
+    match row {
+        Found::Row(i) => kind_at(table, i) == PARTICIPANT,
+        Found::Nothing => false,
     }
 }
 
@@ -168,10 +212,11 @@ pub fn lookup(date: u32, table: &[u8], bic: &[u8]) -> Answer
         return Answer::Refused(Refusal::Bic);
     }
     let found = route(date, table, bic);
+    let reached = reachable(table, found);
     match found {
         Found::Row(i) => Answer::Row {
             place: i,
-            reachable: kind_at(table, i) != 0,
+            reachable: reached,
         },
         Found::Nothing => Answer::Missing,
     }
@@ -179,7 +224,7 @@ pub fn lookup(date: u32, table: &[u8], bic: &[u8]) -> Answer
 
 // The number of a refusal.
 pub fn number_of(refusal: Refusal) -> u32
-    ensures { λ r. ⌜ r ≡ refusalNumber refusal ⌝ }
+    ensures { λ r. ⌜ r ≡ lookupNumber refusal ⌝ }
 {
     match refusal {
         Refusal::Date => 1,

@@ -8,7 +8,7 @@ use Prim.Native.Nat.{ℕ}
 use Prim.Native.String.{String}
 use lib.ListN.{take, replicate}
 use Rattle.wire.specs.Field.{text, bytesOf, numberFrom}
-use Rattle.sheet.specs.Sheet.{kindOf, bulkIdentifierOf, senderOf, statedNumberOf, statedSumOf, valueDateOf, marksOf, identifierOf, receiverOf, amountOf, originalOf, reasonOf, nameOf, recordsAt, bulkCount, bulksFrom, bulksOf, endFrom, messagesFrom, whole, shape, headersOf, kindsKnown, mixed}
+use Rattle.sheet.specs.Sheet.{kindOf, bulkIdentifierOf, senderOf, statedNumberOf, statedSumOf, valueDateOf, marksOf, identifierOf, receiverOf, amountOf, originalOf, reasonOf, nameOf, messageWidth, recordsAt, bulkCount, bulksFrom, bulksOf, endFrom, messagesFrom, whole, shape, headersOf, kindsKnown, mixed}
 
 -- ---- records, field by field in the order of the layout
 
@@ -88,7 +88,7 @@ sheets =
     ∷ []
 
 sheetsRight : map (λ c. shape (c .bytes)) sheets ≡ map (λ c. c .answer) sheets
-unfolding sheets broken holds one good header message padded bytesOf shape whole endFrom messagesFrom numberFrom
+unfolding sheets broken holds one good header message padded bytesOf messageWidth shape whole endFrom messagesFrom numberFrom
 sheetsRight = refl
 
 -- ---- the kinds of the bulks, and what the bulks are
@@ -125,5 +125,5 @@ bulksRight :
     ≡ record { header = header 1 "D1"; messages = message "T1" ∷ [] }
     ∷ record { header = header 3 "D2"; messages = message "T2" ∷ message "T3" ∷ [] }
     ∷ []
-unfolding good header message padded bytesOf bulksFrom recordsAt numberFrom
+unfolding good header message padded bytesOf messageWidth bulksFrom recordsAt numberFrom
 bulksRight = refl

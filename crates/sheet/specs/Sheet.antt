@@ -8,123 +8,195 @@ use lib.ListN.{length}
 use lib.Dec.{leb, eqb}
 use Rattle.wire.specs.Field.{part, numberAt}
 
--- ---- a header, 65 bytes
+-- ---- the widths of texts
+
+abbrev pub identifierWidth : ℕ
+identifierWidth = 35
+
+abbrev pub senderWidth : ℕ
+senderWidth = 8
+
+abbrev pub receiverWidth : ℕ
+receiverWidth = 11
+
+abbrev pub reasonWidth : ℕ
+reasonWidth = 4
+
+abbrev pub nameWidth : ℕ
+nameWidth = 15
+
+-- ---- a header: where each field begins, and where the header ends
+
+abbrev pub kindPlace : ℕ
+kindPlace = 0
+
+abbrev pub bulkIdentifierPlace : ℕ
+bulkIdentifierPlace = 1
+
+abbrev pub senderPlace : ℕ
+senderPlace = 36
+
+abbrev pub statedNumberPlace : ℕ
+statedNumberPlace = 44
+
+abbrev pub statedSumPlace : ℕ
+statedSumPlace = 52
+
+abbrev pub valueDatePlace : ℕ
+valueDatePlace = 60
+
+abbrev pub marksPlace : ℕ
+marksPlace = 64
 
 abbrev pub headerWidth : ℕ
 headerWidth = 65
 
 abbrev pub kindOf : List ℕ → ℕ
-kindOf header = numberAt header 0 1
+kindOf header = numberAt header kindPlace 1
 
 abbrev pub bulkIdentifierOf : List ℕ → List ℕ
-bulkIdentifierOf header = part header 1 35
+bulkIdentifierOf header = part header bulkIdentifierPlace identifierWidth
 
 abbrev pub senderOf : List ℕ → List ℕ
-senderOf header = part header 36 8
+senderOf header = part header senderPlace senderWidth
 
 abbrev pub statedNumberOf : List ℕ → ℕ
-statedNumberOf header = numberAt header 44 8
+statedNumberOf header = numberAt header statedNumberPlace 8
 
 abbrev pub statedSumOf : List ℕ → ℕ
-statedSumOf header = numberAt header 52 8
+statedSumOf header = numberAt header statedSumPlace 8
 
 abbrev pub valueDateOf : List ℕ → ℕ
-valueDateOf header = numberAt header 60 4
+valueDateOf header = numberAt header valueDatePlace 4
 
 abbrev pub marksOf : List ℕ → ℕ
-marksOf header = numberAt header 64 1
+marksOf header = numberAt header marksPlace 1
 
--- ---- a message, 81 bytes
+-- ---- a message: where each field begins, and where the last one ends
 
-abbrev pub messageWidth : ℕ
-messageWidth = 81
+abbrev pub identifierPlace : ℕ
+identifierPlace = 0
+
+abbrev pub receiverPlace : ℕ
+receiverPlace = 35
+
+abbrev pub amountPlace : ℕ
+amountPlace = 46
+
+abbrev pub originalPlace : ℕ
+originalPlace = 54
+
+abbrev pub reasonPlace : ℕ
+reasonPlace = 62
+
+abbrev pub namePlace : ℕ
+namePlace = 66
+
+abbrev pub fieldsWidth : ℕ
+fieldsWidth = 81
+
+-- how wide a message is in a bulk of a kind: today every kind has these fields and no more
+unfoldable pub messageWidth : ℕ → ℕ
+messageWidth kind = fieldsWidth
 
 abbrev pub identifierOf : List ℕ → List ℕ
-identifierOf message = part message 0 35
+identifierOf message = part message identifierPlace identifierWidth
 
 abbrev pub receiverOf : List ℕ → List ℕ
-receiverOf message = part message 35 11
+receiverOf message = part message receiverPlace receiverWidth
 
 abbrev pub amountOf : List ℕ → ℕ
-amountOf message = numberAt message 46 8
+amountOf message = numberAt message amountPlace 8
 
 abbrev pub originalOf : List ℕ → ℕ
-originalOf message = numberAt message 54 8
+originalOf message = numberAt message originalPlace 8
 
 abbrev pub reasonOf : List ℕ → List ℕ
-reasonOf message = part message 62 4
+reasonOf message = part message reasonPlace reasonWidth
 
 abbrev pub nameOf : List ℕ → List ℕ
-nameOf message = part message 66 15
+nameOf message = part message namePlace nameWidth
 
 -- ---- sections, each after its count
 
+abbrev pub countWidth : ℕ
+countWidth = 4
+
 abbrev pub countAt : List ℕ → ℕ → ℕ
-countAt sheet at = numberAt sheet at 4
+countAt sheet at = numberAt sheet at countWidth
 
 -- n records of a width, one after the other from place at on
 unfoldable pub recordsAt : ℕ → List ℕ → ℕ → ℕ → List (List ℕ)
 recordsAt width sheet zero at = []
 recordsAt width sheet (suc n) at = part sheet at width ∷ recordsAt width sheet n (at + width)
 
--- the place after a section of messages that begins at place at
-abbrev pub afterSection : List ℕ → ℕ → ℕ
-afterSection sheet at = at + 4 + messageWidth * countAt sheet at
+-- the header at place head, and the message at place at in a bulk of a kind
+abbrev pub headerAt : List ℕ → ℕ → List ℕ
+headerAt sheet head = part sheet head headerWidth
 
--- ---- the bulks
+abbrev pub messageAt : ℕ → List ℕ → ℕ → List ℕ
+messageAt kind sheet at = part sheet at (messageWidth kind)
+
+-- ---- the bulks: each has its header at a place head, and its section of messages at a place at
 
 pub record Bulk : Type 0 where
   pub header : List ℕ
   pub messages : List (List ℕ)
 
-abbrev pub bulkCount : List ℕ → ℕ
-bulkCount sheet = countAt sheet 0
+-- the width of its messages, by its header's kind
+abbrev pub widthAt : List ℕ → ℕ → ℕ
+widthAt sheet head = messageWidth (kindOf (headerAt sheet head))
 
--- the sections follow the headers
-abbrev pub firstSection : List ℕ → ℕ
-firstSection sheet = 4 + headerWidth * bulkCount sheet
+-- the place after its section
+abbrev pub afterMessages : List ℕ → ℕ → ℕ → ℕ
+afterMessages sheet head at = at + countWidth + widthAt sheet head * countAt sheet at
 
--- the bulk whose header begins at place head, and whose section of messages at place at
 abbrev pub bulkAt : List ℕ → ℕ → ℕ → Bulk
 bulkAt sheet head at = record {
-  header = part sheet head headerWidth;
-  messages = recordsAt messageWidth sheet (countAt sheet at) (at + 4);
+  header = headerAt sheet head;
+  messages = recordsAt (widthAt sheet head) sheet (countAt sheet at) (at + countWidth);
 }
 
 -- n bulks: their headers from place head on, their sections from place at on
 unfoldable pub bulksFrom : List ℕ → ℕ → ℕ → ℕ → List Bulk
 bulksFrom sheet zero head at = []
-bulksFrom sheet (suc n) head at = bulkAt sheet head at ∷ bulksFrom sheet n (head + headerWidth) (afterSection sheet at)
-
-abbrev pub bulksOf : List ℕ → List Bulk
-bulksOf sheet = bulksFrom sheet (bulkCount sheet) 4 (firstSection sheet)
+bulksFrom sheet (suc n) head at = bulkAt sheet head at ∷ bulksFrom sheet n (head + headerWidth) (afterMessages sheet head at)
 
 -- the messages of a list of bulks
-unfoldable pub messagesIn : List Bulk → ℕ
-messagesIn [] = 0
-messagesIn (b ∷ bs) = length (b .messages) + messagesIn bs
+unfoldable pub countMessages : List Bulk → ℕ
+countMessages [] = 0
+countMessages (b ∷ bs) = length (b .messages) + countMessages bs
 
--- ---- the whole sheet
+-- ---- the whole sheet: the section of headers, then the sections of messages
 
--- the place after n sections from place at on, and the messages in them
-unfoldable pub endFrom : List ℕ → ℕ → ℕ → ℕ
-endFrom sheet zero at = at
-endFrom sheet (suc n) at = endFrom sheet n (afterSection sheet at)
+abbrev pub bulkCount : List ℕ → ℕ
+bulkCount sheet = countAt sheet 0
 
-unfoldable pub messagesFrom : List ℕ → ℕ → ℕ → ℕ
-messagesFrom sheet zero at = 0
-messagesFrom sheet (suc n) at = countAt sheet at + messagesFrom sheet n (afterSection sheet at)
+abbrev pub firstSection : List ℕ → ℕ
+firstSection sheet = countWidth + headerWidth * bulkCount sheet
+
+abbrev pub bulksOf : List ℕ → List Bulk
+bulksOf sheet = bulksFrom sheet (bulkCount sheet) countWidth (firstSection sheet)
+
+-- the place after the sections of n bulks, and the messages in them
+unfoldable pub endFrom : List ℕ → ℕ → ℕ → ℕ → ℕ
+endFrom sheet zero head at = at
+endFrom sheet (suc n) head at = endFrom sheet n (head + headerWidth) (afterMessages sheet head at)
+
+unfoldable pub messagesFrom : List ℕ → ℕ → ℕ → ℕ → ℕ
+messagesFrom sheet zero head at = 0
+messagesFrom sheet (suc n) head at = countAt sheet at + messagesFrom sheet n (head + headerWidth) (afterMessages sheet head at)
 
 abbrev pub messageCount : List ℕ → ℕ
-messageCount sheet = messagesFrom sheet (bulkCount sheet) (firstSection sheet)
+messageCount sheet = messagesFrom sheet (bulkCount sheet) countWidth (firstSection sheet)
 
 -- The last section ends where the sheet does. Places only move forward, so that no section before it ran past the end either; the
 -- first two tests follow from the last, and spare the walk where a count is beyond all bounds.
 unfoldable pub whole : List ℕ → Bool
 whole sheet =
-    leb 4 (length sheet)
+    leb countWidth (length sheet)
     && leb (firstSection sheet) (length sheet)
-    && eqb (endFrom sheet (bulkCount sheet) (firstSection sheet)) (length sheet)
+    && eqb (endFrom sheet (bulkCount sheet) countWidth (firstSection sheet)) (length sheet)
 
 -- how many bulks and messages a whole sheet holds
 unfoldable pub shape : List ℕ → Option (ℕ × ℕ)
@@ -143,7 +215,7 @@ abbrev pub knownKind : ℕ → Bool
 knownKind kind = eqb kind paymentKind || eqb kind returnKind
 
 abbrev pub headersOf : List ℕ → ℕ → List (List ℕ)
-headersOf sheet n = recordsAt headerWidth sheet n 4
+headersOf sheet n = recordsAt headerWidth sheet n countWidth
 
 unfoldable pub kindsKnown : List (List ℕ) → Bool
 kindsKnown [] = true

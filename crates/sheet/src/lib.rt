@@ -1,15 +1,18 @@
-// The sheet of a file: a cursor that reads its records one after the other, whether it is whole, and the kinds of its bulks.
-// It knows the layout and no rule of judging.
+// The sheet of a file: a cursor that reads its records one after the other, a walk over its bulks, whether it is whole, and the kinds
+// of its bulks. It knows the layout and no rule of judging; nobody above knows a place or a width.
+mod layout;
+
 ghost use mathlib.Core.Path.{_≡_};
 ghost use mathlib.Core.Bool.{false};
 ghost use Prim.Native.Nat.{_+_, _*_, _≤_};
 ghost use lib.ListN.{length};
-ghost use Rattle.sheet.specs.Sheet.{headerWidth, messageWidth, headersOf, shape, kindsKnown, mixed};
-ghost use Rattle.sheet.specs.Reading.{CountRead, HeaderRead, MessageRead, shapeOf};
+ghost use Rattle.sheet.specs.Sheet.{countWidth, headerWidth, messageWidth, bulkIdentifierOf, senderOf, identifierOf, receiverOf, reasonOf, nameOf, headersOf, shape, kindsKnown, mixed};
+ghost use Rattle.sheet.specs.Reading.{headerIn, messageIn, CountRead, HeaderRead, MessageRead, WalkStarted, Inside, BulkTaken, shapeOf};
 
-pub const HEADER_WIDTH: usize = 65;
+// The kinds of a bulk: pacs.008 and pacs.004.
+pub const PAYMENT: u8 = 1;
 
-pub const MESSAGE_WIDTH: usize = 81;
+pub const RETURN: u8 = 3;
 
 // A place in the sheet. Each method hands back the place after what it read.
 pub struct Cursor {
@@ -21,7 +24,7 @@ pub struct Counted {
     pub next: Cursor,
 }
 
-// The numbers of a header, and where it begins.
+// The numbers of a header, and where it begins. Its texts are read by name, where they are asked for.
 pub struct Header {
     pub at: usize,
     pub kind: u8,
@@ -32,12 +35,31 @@ pub struct Header {
     pub next: Cursor,
 }
 
-// The numbers of a message, and where it begins.
+// The numbers of a message, its bulk's kind, and where it begins.
 pub struct Message {
     pub at: usize,
+    pub kind: u8,
     pub amount: u64,
     pub original: u64,
     pub next: Cursor,
+}
+
+// The messages of a bulk: where the first begins, and how many there are.
+pub struct Section {
+    pub at: usize,
+    pub number: usize,
+}
+
+// Where the next bulk's header and its section begin.
+pub struct Walk {
+    pub heads: Cursor,
+    pub bodies: Cursor,
+}
+
+pub struct BulkRead {
+    pub header: Header,
+    pub section: Section,
+    pub next: Walk,
 }
 
 // The bulks and the messages of a whole sheet.
@@ -47,24 +69,16 @@ pub enum Shape {
 }
 
 impl Cursor {
-    // At the first section, after so many headers.
-    pub fn after_headers(s: &[u8], bulks: usize) -> Cursor
-        requires { ⌜ 4 + headerWidth * bulks ≤ length (now s) ⌝ }
-        ensures { λ r. ⌜ r .at ≡ 4 + headerWidth * bulks ⌝ }
-    {
-        Cursor {
-            at: 4 + HEADER_WIDTH * bulks,
-        }
-    }
-
     pub fn count(self, s: &[u8]) -> Counted
-        requires { ⌜ self .at + 4 ≤ length (now s) ⌝ }
+        requires { ⌜ self .at + countWidth ≤ length (now s) ⌝ }
         ensures { λ r. ⌜ CountRead (now (s .entry)) (self .at) r ⌝ }
     {
         let at = self.at;
         Counted {
             count: wire::u32_at(s, at),
-            next: Cursor { at: at + 4 },
+            next: Cursor {
+                at: at + layout::COUNT_WIDTH,
+            },
         }
     }
 
@@ -76,39 +90,130 @@ impl Cursor {
         Header {
             at,
             kind: wire::u8_at(s, at),
-            number: wire::u64_at(s, at + 44),
-            sum: wire::u64_at(s, at + 52),
-            date: wire::u32_at(s, at + 60),
-            marks: wire::u8_at(s, at + 64),
+            number: wire::u64_at(s, at + layout::STATED_NUMBER_PLACE),
+            sum: wire::u64_at(s, at + layout::STATED_SUM_PLACE),
+            date: wire::u32_at(s, at + layout::VALUE_DATE_PLACE),
+            marks: wire::u8_at(s, at + layout::MARKS_PLACE),
             next: Cursor {
-                at: at + HEADER_WIDTH,
+                at: at + layout::HEADER_WIDTH,
             },
         }
     }
 
-    pub fn message(self, s: &[u8]) -> Message
-        requires { ⌜ self .at + messageWidth ≤ length (now s) ⌝ }
-        ensures { λ r. ⌜ MessageRead (now (s .entry)) (self .at) r ⌝ }
+    // A message of a bulk of this kind.
+    pub fn message(self, s: &[u8], kind: u8) -> Message
+        requires { ⌜ self .at + messageWidth kind ≤ length (now s) ⌝ }
+        ensures { λ r. ⌜ MessageRead (now (s .entry)) kind (self .at) r ⌝ }
     {
         let at = self.at;
         Message {
             at,
-            amount: wire::u64_at(s, at + 46),
-            original: wire::u64_at(s, at + 54),
+            kind,
+            amount: wire::u64_at(s, at + layout::AMOUNT_PLACE),
+            original: wire::u64_at(s, at + layout::ORIGINAL_PLACE),
             next: Cursor {
-                at: at + MESSAGE_WIDTH,
+                at: at + layout::message_width(kind),
+            },
+        }
+    }
+}
+
+// The texts of a header.
+impl Header {
+    pub fn identifier(self, s: &[u8]) -> &[u8]
+        requires { ⌜ self .at + headerWidth ≤ length (now s) ⌝ }
+        ensures { λ r. ⌜ now r ≡ bulkIdentifierOf (headerIn (now (s .entry)) self) ⌝ }
+    {
+        let at = self.at;
+        wire::text_at(
+            s,
+            at + layout::BULK_IDENTIFIER_PLACE,
+            layout::IDENTIFIER_WIDTH,
+        )
+    }
+
+    pub fn sender(self, s: &[u8]) -> &[u8]
+        requires { ⌜ self .at + headerWidth ≤ length (now s) ⌝ }
+        ensures { λ r. ⌜ now r ≡ senderOf (headerIn (now (s .entry)) self) ⌝ }
+    {
+        let at = self.at;
+        wire::text_at(s, at + layout::SENDER_PLACE, layout::SENDER_WIDTH)
+    }
+}
+
+// The texts of a message.
+impl Message {
+    pub fn identifier(self, s: &[u8]) -> &[u8]
+        requires { ⌜ self .at + messageWidth (self .kind) ≤ length (now s) ⌝ }
+        ensures { λ r. ⌜ now r ≡ identifierOf (messageIn (now (s .entry)) self) ⌝ }
+    {
+        let at = self.at;
+        wire::text_at(s, at, layout::IDENTIFIER_WIDTH)
+    }
+
+    pub fn receiver(self, s: &[u8]) -> &[u8]
+        requires { ⌜ self .at + messageWidth (self .kind) ≤ length (now s) ⌝ }
+        ensures { λ r. ⌜ now r ≡ receiverOf (messageIn (now (s .entry)) self) ⌝ }
+    {
+        let at = self.at;
+        wire::text_at(s, at + layout::RECEIVER_PLACE, layout::RECEIVER_WIDTH)
+    }
+
+    pub fn reason(self, s: &[u8]) -> &[u8]
+        requires { ⌜ self .at + messageWidth (self .kind) ≤ length (now s) ⌝ }
+        ensures { λ r. ⌜ now r ≡ reasonOf (messageIn (now (s .entry)) self) ⌝ }
+    {
+        let at = self.at;
+        wire::text_at(s, at + layout::REASON_PLACE, layout::REASON_WIDTH)
+    }
+
+    pub fn name(self, s: &[u8]) -> &[u8]
+        requires { ⌜ self .at + messageWidth (self .kind) ≤ length (now s) ⌝ }
+        ensures { λ r. ⌜ now r ≡ nameOf (messageIn (now (s .entry)) self) ⌝ }
+    {
+        let at = self.at;
+        wire::text_at(s, at + layout::NAME_PLACE, layout::NAME_WIDTH)
+    }
+}
+
+impl Walk {
+    // At the first bulk.
+    pub fn start(s: &[u8]) -> Walk
+        ensures { λ r. ⌜ WalkStarted (now (s .entry)) r ⌝ }
+    {
+        Walk {
+            heads: Cursor {
+                at: layout::COUNT_WIDTH,
+            },
+            bodies: Cursor {
+                at: layout::first_section(wire::u32_at(s, 0)),
             },
         }
     }
 
-    // Past n messages.
-    pub fn skip(self, s: &[u8], n: usize) -> Cursor
-        requires { ⌜ self .at + messageWidth * n ≤ length (now s) ⌝ }
-        ensures { λ r. ⌜ r .at ≡ self .at + messageWidth * n ⌝ }
+    // The bulk that comes next, and the walk after it.
+    pub fn bulk(self, s: &[u8]) -> BulkRead
+        requires { ⌜ Inside (now s) (self .heads .at) (self .bodies .at) ⌝ }
+        ensures { λ r. ⌜ BulkTaken (now (s .entry)) (self .heads .at) (self .bodies .at) r ⌝ }
     {
-        let at = self.at;
-        Cursor {
-            at: at + MESSAGE_WIDTH * n,
+        let heads = self.heads;
+        let bodies = self.bodies;
+        let header = heads.header(s);
+        let counted = bodies.count(s);
+        let next = header.next;
+        let first = counted.next;
+        BulkRead {
+            header,
+            section: Section {
+                at: first.at,
+                number: counted.count as usize,
+            },
+            next: Walk {
+                heads: next,
+                bodies: Cursor {
+                    at: layout::after_messages(bodies.at, header.kind, counted.count),
+                },
+            },
         }
     }
 }
@@ -118,17 +223,20 @@ impl Cursor {
 pub fn measure(s: &[u8]) -> Shape
     ensures { λ r. ⌜ shapeOf r ≡ shape (now (s .entry)) ⌝ }
 {
-    let bulks = wire::u32_at(s, 0) as usize;
-    let mut at = 4 + HEADER_WIDTH * bulks;
+    let count = wire::u32_at(s, 0);
+    let bulks = count as usize;
+    let mut head = layout::COUNT_WIDTH;
+    let mut at = layout::first_section(count);
     let mut messages = 0;
     let mut k = 0;
     while k < bulks {
         if s.len() < at {
             return Shape::Broken;
         }
-        let n = wire::u32_at(s, at) as usize;
-        at = at + 4 + MESSAGE_WIDTH * n;
-        messages += n;
+        let n = wire::u32_at(s, at);
+        at = layout::after_messages(at, s[head], n);
+        messages += n as usize;
+        head += layout::HEADER_WIDTH;
         k += 1;
     }
     if at == s.len() {
@@ -138,39 +246,39 @@ pub fn measure(s: &[u8]) -> Shape
     }
 }
 
-// Whether each of the first n headers is of kind 1 or 3.
+// Whether each of the first n headers is of a known kind.
 pub fn kinds_known(s: &[u8], n: usize) -> bool
-    requires { ⌜ 4 + headerWidth * n ≤ length (now s) ⌝ }
+    requires { ⌜ countWidth + headerWidth * n ≤ length (now s) ⌝ }
     ensures { λ r. ⌜ r ≡ kindsKnown (headersOf (now (s .entry)) n) ⌝ }
 {
-    let mut at = 4;
+    let mut at = layout::COUNT_WIDTH;
     let mut k = 0;
     while k < n {
         let kind = s[at];
-        if !((kind == 1) | (kind == 3)) {
+        if !((kind == PAYMENT) | (kind == RETURN)) {
             return false;
         }
-        at += HEADER_WIDTH;
+        at += layout::HEADER_WIDTH;
         k += 1;
     }
     true
 }
 
-// Whether among the first n headers one of kind 1 stands after one of kind 3.
+// Whether among the first n headers a payment stands after a return.
 pub fn kinds_mixed(s: &[u8], n: usize) -> bool
-    requires { ⌜ 4 + headerWidth * n ≤ length (now s) ⌝ }
+    requires { ⌜ countWidth + headerWidth * n ≤ length (now s) ⌝ }
     ensures { λ r. ⌜ r ≡ mixed false (headersOf (now (s .entry)) n) ⌝ }
 {
     let mut seen = false;
-    let mut at = 4;
+    let mut at = layout::COUNT_WIDTH;
     let mut k = 0;
     while k < n {
         let kind = s[at];
-        if seen & (kind == 1) {
+        if seen & (kind == PAYMENT) {
             return true;
         }
-        seen = seen | (kind == 3);
-        at += HEADER_WIDTH;
+        seen = seen | (kind == RETURN);
+        at += layout::HEADER_WIDTH;
         k += 1;
     }
     false

@@ -1,11 +1,11 @@
 -- `register::add` meets its contract: the entry, then the number. Assumes nothing.
-use Rattle.register.specs.Register.{add}
+use Rattle.register.specs.Register.{entry, add}
 use borrow.Author.Needs.{needs}
 use Rattle.register.proofs.add.Statement.{statement}
 use Rattle.register.proofs.add.Tie as tie
 
 returns : tie.Need-returns
-unfolding add
+unfolding add entry
 returns c = cc
 
 pub add-spec : {M : Type 1} → statement M

@@ -2,7 +2,7 @@
 use mathlib.Core.Path.{refl}
 use Prim.Native.Nat.{_<_, _^_}
 use native.Mathlib.Omega.{arith}
-use Rattle.report.specs.Tally.{totalsOf}
+use Rattle.tally.specs.Tally.{totalsOf}
 use Rattle.report.proofs.Laws.{bulk-written}
 use borrow.Author.Needs.{needs}
 use Rattle.report.proofs.put_bulk_line.Statement.{statement}
@@ -18,8 +18,7 @@ returns c =
     let start = first .before .before .before .before in
     let tally = start .args .tally in
     let fits : tally .accepted .cents .1 < 2 ^ 64 = omega (arith, start .good) in
-    rw (fifth .put-halves .ensures, fourth .put-number3 .ensures, third .put-number2 .ensures, second .put-number .ensures, first .put-head .ensures)
-    (bulk-written (start .args .out .now) (start .args .at) (start .args .identifier .now) (start .args .outcome) (start .args .faults) (totalsOf tally) (tally .accepted .cents .0) (tally .accepted .cents .1) (start .pre .1) fits refl)
+    bulk-written (start .args .out .now) (start .args .at) (start .args .identifier .now) (start .args .outcome) (start .args .faults) (start .pre .1) (totalsOf tally) (tally .accepted .cents .0) (tally .accepted .cents .1) fits refl _ _ _ _ _ (first .put-head .ensures) (second .put-number .ensures) (third .put-number2 .ensures) (fourth .put-number3 .ensures) (fifth .put-halves .ensures)
 
 pub put-bulk-line-spec : {M : Type 1} → statement M
 put-bulk-line-spec = tie.close (tie.spec (λ c κs. search needs) (λ c. search needs) (λ c. search needs) (λ c κs. search needs) (λ c. search needs) (λ c κs. search needs) (λ c. search needs) (λ c. search needs) (λ c κs. search needs) (λ c. search needs) (λ c κs. search needs) (λ c. search needs) returns)

@@ -10,8 +10,7 @@ returns c =
     let second = third .before .before .before .before in
     let first = second .before .before .before .before in
     let start = first .before .before .before .before in
-    rw (third .put-number2 .ensures, second .put-number .ensures, first .put-text .ensures)
-    (head-written (start .args .out .now) (start .args .at) (start .args .identifier .now) (start .args .outcome) (start .args .faults) (start .pre .1))
+    head-written (start .args .out .now) (start .args .at) (start .args .identifier .now) (start .args .outcome) (start .args .faults) (start .pre .1) _ _ _ (first .put-text .ensures) (second .put-number .ensures) (third .put-number2 .ensures)
 
 pub put-head-spec : {M : Type 1} → statement M
 put-head-spec = tie.close (tie.spec (λ c κs. search needs) (λ c. search needs) (λ c κs. search needs) (λ c. search needs) (λ c κs. search needs) (λ c. search needs) returns)

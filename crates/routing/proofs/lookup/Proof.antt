@@ -1,12 +1,10 @@
 -- `routing::lookup` meets its contract: each answer is that of the way that led to it. Assumes nothing.
 use mathlib.Core.Path.{sym, ap, _∙_}
-use mathlib.Core.Bool.{not}
-use Prim.Native.Nat.{ℕ}
 use native.Mathlib.Nat.{lt-of-lt-of-le}
-use lib.Dec.{eqb}
 use borrow.Author.Tests.{not-true, not-false}
-use Rattle.routing.specs.Lookup.{optionOf, rowIs}
-use Rattle.routing.proofs.Laws.{lookup-date, lookup-table, lookup-bic, lookup-row, row-below}
+use Rattle.routing.specs.Lookup.{optionOf, reachable, rowIs}
+use Rattle.routing.specs.declared.Found.{Found}
+use Rattle.routing.proofs.Laws.{lookup-date, lookup-table, lookup-bic, lookup-row, found-below}
 use borrow.Author.Needs.{needs}
 use Rattle.routing.proofs.lookup.Statement.{statement}
 use Rattle.routing.proofs.lookup.Tie as tie
@@ -28,22 +26,35 @@ returns-3 c =
 
 returns-4 : tie.Need-returns-4
 returns-4 c =
-    let args = c .before .before .before .before .before .before .before .before .before .before .before .before .args in
-    let told = ap optionOf (sym (c .before .before .found .given .1)) ∙ c .before .before .before .before .route .ensures .is in
-    let below = row-below (args .table .now) _ _ (c .before .before .found .given .1) (c .before .before .before .before .route .ensures .within) in
-    let few = c .before .before .before .before .before .before .before .well-formed .ensures .formed (not-false _ (c .before .before .before .before .before .before .if2 .left)) .few in
+    let reached = c .before .before .before in
+    let routed = reached .before in
+    let formed = routed .before .before .before in
+    let dated = formed .before .before in
+    let args = dated .before .before .before .args in
+    let given = c .before .found .given in
+    let below = found-below (args .table .now) _ _ (given .1) (routed .route .ensures .within) in
     record {
-      is = ap (λ (k : ℕ). rowIs (c .before .before .found .given .0 .0) (not (eqb k 0))) (c .kind-at .ensures)
-          ∙ lookup-row (args .date) (args .table .now) (args .bic .now) (sym (c .before .before .before .before .before .before .before .before .before .is-date .ensures) ∙ not-false _ (c .before .before .before .before .before .before .before .before .if1 .left)) (sym (c .before .before .before .before .before .before .before .well-formed .ensures .is) ∙ not-false _ (c .before .before .before .before .before .before .if2 .left)) (c .before .before .before .before .before .if3 .left) _ told;
+      is = ap (rowIs (given .0 .0)) (reached .reachable .ensures ∙ ap (λ (f : Found). reachable (args .table .now) (optionOf f)) (given .1))
+          ∙ lookup-row (args .date) (args .table .now) (args .bic .now)
+          (sym (dated .is-date .ensures) ∙ not-false _ (formed .before .if1 .left)) (sym (formed .well-formed .ensures .is) ∙ not-false _ (routed .before .before .if2 .left))
+          (routed .before .if3 .left) _ (ap optionOf (sym (given .1)) ∙ routed .route .ensures .is);
       within = below;
-      small = lt-of-lt-of-le below few;
+      small = lt-of-lt-of-le below (formed .well-formed .ensures .formed (not-false _ (routed .before .before .if2 .left)) .few);
     }
 
 returns-5 : tie.Need-returns-5
 returns-5 c =
-    let args = c .before .before .before .before .before .before .before .before .before .before .args in
-    let told = ap optionOf (sym (c .enum-told .given .1)) ∙ c .before .before .route .ensures .is in
-    record { is = lookup-row (args .date) (args .table .now) (args .bic .now) (sym (c .before .before .before .before .before .before .before .is-date .ensures) ∙ not-false _ (c .before .before .before .before .before .before .if1 .left)) (sym (c .before .before .before .before .before .well-formed .ensures .is) ∙ not-false _ (c .before .before .before .before .if2 .left)) (c .before .before .before .if3 .left) _ told; within = tt; small = tt }
+    let routed = c .before .before .before in
+    let formed = routed .before .before .before in
+    let dated = formed .before .before in
+    let args = dated .before .before .before .args in
+    record {
+      is = lookup-row (args .date) (args .table .now) (args .bic .now)
+          (sym (dated .is-date .ensures) ∙ not-false _ (formed .before .if1 .left)) (sym (formed .well-formed .ensures .is) ∙ not-false _ (routed .before .before .if2 .left))
+          (routed .before .if3 .left) _ (ap optionOf (sym (c .enum-told .given .1)) ∙ routed .route .ensures .is);
+      within = tt;
+      small = tt;
+    }
 
 pub lookup-spec : {M : Type 1} → statement M
-lookup-spec = tie.close (tie.spec (λ c κs. search needs) returns (λ c κs. search needs) returns-2 returns-3 (λ c κs. search needs) (λ c. search needs) (λ c κs. search needs) (λ c. search needs) returns-4 returns-5)
+lookup-spec = tie.close (tie.spec (λ c κs. search needs) returns (λ c κs. search needs) returns-2 returns-3 (λ c κs. search needs) (λ c κs. search needs) (λ c. search needs) (λ c. search needs) returns-4 returns-5)
