@@ -1,2 +1,3 @@
-pub mod Facts
-pub mod Asked
+pub mod Terms
+pub mod OfBulk
+pub mod OfMessage

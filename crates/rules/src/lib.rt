@@ -1,66 +1,100 @@
-// The faults of a bulk and of a message: one named function a fact, and the masks that show them all. Nothing here knows where a
-// line is written.
-pub mod masks;
-
+// The faults of a bulk and of a message: one function for each, of the fields that it looks at and no more. Which bit shows it is
+// said in the crate faults.
 ghost use mathlib.Core.Path.{_≡_};
-ghost use mathlib.Core.Bool.{not, _&&_};
-ghost use lib.Dec.{eqb};
-ghost use Rattle.wire.specs.Field.{part};
-ghost use Rattle.routing.specs.Lookup.{optionOf, reachable};
-ghost use Rattle.sheet.specs.Sheet.{headerWidth, messageWidth};
-ghost use Rattle.wording.specs.Wording.{blank, oneOf, reasons, names};
-ghost use Rattle.rules.specs.Facts.{marksWrong, noParticipant, bulkFaults, amountWrong, tellsOf, messageFaults};
-ghost use Rattle.rules.specs.Asked.{wholeOf, BulkAsked, MessageAsked};
+ghost use Rattle.routing.specs.Lookup.{optionOf};
+ghost use Rattle.register.specs.Room.{Parts};
+ghost use Rattle.tally.specs.Tally.{centsOf};
+ghost use Rattle.rules.specs.OfBulk.{marksWrong, noParticipant, dateWrong, repeated, empty, numberWrong, sumWrong};
+ghost use Rattle.rules.specs.OfMessage.{receiverBadlyFormed, unreachable, amountWrong, tellsOriginal, reasonUnknown, nameUnknown, amountDiffers};
 use routing::Found;
-use sheet::Header;
-use sheet::Message;
-use wire::Halves;
+use tally::Cents;
+
+// What a call asks to be judged by, besides its bytes.
+pub struct Terms {
+    pub date: u32,
+}
 
 // The EPC limit of an amount.
 pub const MOST_CENTS: u64 = 99999999999;
 
 // The bits of a header's marks.
-const CLRG: u8 = 0;
+const CLRG: u16 = 0;
 
-const EKS: u8 = 1;
+const EKS: u16 = 1;
 
-const RECIPIENT: u8 = 2;
+const RECIPIENT: u16 = 2;
+
+// ---- a bulk
 
 // Whether the marks are other than CLRG and EKS and nothing else.
 pub fn marks_wrong(marks: u8) -> bool
     ensures { λ r. ⌜ r ≡ marksWrong marks ⌝ }
 {
-    !((marks >> CLRG & 1 == 1)
-        & (marks >> EKS & 1 == 1)
-        & (marks >> RECIPIENT & 1 == 0)
-        & (marks >> 3 == 0))
+    let mask = marks as u16;
+    !(masks::shows(mask, CLRG)
+        & masks::shows(mask, EKS)
+        & !masks::shows(mask, RECIPIENT)
+        & (mask >> 3 == 0))
 }
 
 // Whether the sender's row is missing or no participant's.
 pub fn no_participant(table: &[u8], row: Found) -> bool
     ensures { λ r. ⌜ r ≡ noParticipant (now (table .entry)) (optionOf row) ⌝ }
 {
-    match row {
-        Found::Row(i) => routing::kind_at(table, i) != 5,
-        Found::Nothing => true,
-    }
+    !routing::participates(table, row)
+}
+
+// Whether a value date is another than the call's.
+pub fn date_wrong(terms: Terms, date: u32) -> bool
+    ensures { λ r. ⌜ r ≡ dateWrong terms date ⌝ }
+{
+    date != terms.date
+}
+
+// Whether the sender has used the identifier before, for what the tag says: a bulk or a message.
+pub fn repeated(register: &[u8], sender: &[u8], identifier: &[u8], tag: u8) -> bool
+    requires { ⌜ Parts (now sender) (now identifier) ⌝ }
+    ensures { λ r. ⌜ r ≡ repeated (now (register .entry)) (now (sender .entry)) (now (identifier .entry)) tag ⌝ }
+{
+    let key = register::key_of(sender, identifier, tag);
+    register::stands(register, &key)
+}
+
+// Whether a bulk holds no message.
+pub fn empty(number: u64) -> bool
+    ensures { λ r. ⌜ r ≡ empty number ⌝ }
+{
+    number == 0
+}
+
+// Whether the stated number of messages is another than the actual one.
+pub fn number_wrong(stated: u64, number: u64) -> bool
+    ensures { λ r. ⌜ r ≡ numberWrong stated number ⌝ }
+{
+    stated != number
 }
 
 // Whether the stated sum is another than the true one, which may pass 64 bits.
-pub fn sum_wrong(stated: u64, sum: Halves) -> bool
-    ensures { λ r. ⌜ r ≡ not (eqb stated (wholeOf sum)) ⌝ }
+pub fn sum_wrong(stated: u64, sum: Cents) -> bool
+    ensures { λ r. ⌜ r ≡ sumWrong stated (centsOf sum) ⌝ }
 {
     if sum.0 == 0 { stated != sum.1 } else { true }
 }
 
+// ---- a message
+
+// Whether the receiver is not written as a BIC.
+pub fn receiver_badly_formed(receiver: &[u8]) -> bool
+    ensures { λ r. ⌜ r ≡ receiverBadlyFormed (now (receiver .entry)) ⌝ }
+{
+    !wording::bic_formed(receiver)
+}
+
 // Whether the receiver's row is missing or not reachable.
 pub fn unreachable(table: &[u8], row: Found) -> bool
-    ensures { λ r. ⌜ r ≡ not (reachable (now (table .entry)) (optionOf row)) ⌝ }
+    ensures { λ r. ⌜ r ≡ unreachable (now (table .entry)) (optionOf row) ⌝ }
 {
-    match row {
-        Found::Row(i) => routing::kind_at(table, i) == 0,
-        Found::Nothing => true,
-    }
+    !routing::reachable(table, row)
 }
 
 // Whether an amount lies outside 1 to 99,999,999,999 cents.
@@ -71,10 +105,10 @@ pub fn amount_wrong(amount: u64) -> bool
 }
 
 // Whether a payment tells something of an original.
-pub fn tells_original(payment: bool, original: u64, reason: &[u8], name: &[u8]) -> bool
-    ensures { λ r. ⌜ r ≡ (payment && tellsOf original (now (reason .entry)) (now (name .entry))) ⌝ }
+pub fn tells_original(kind: u8, original: u64, reason: &[u8], name: &[u8]) -> bool
+    ensures { λ r. ⌜ r ≡ tellsOriginal kind original (now (reason .entry)) (now (name .entry)) ⌝ }
 {
-    if payment {
+    if kind == sheet::PAYMENT {
         (original != 0) | !wording::blank(reason) | !wording::blank(name)
     } else {
         false
@@ -82,10 +116,10 @@ pub fn tells_original(payment: bool, original: u64, reason: &[u8], name: &[u8]) 
 }
 
 // Whether a return gives no reason of the list.
-pub fn reason_unknown(returned: bool, reason: &[u8]) -> bool
-    ensures { λ r. ⌜ r ≡ (returned && not (oneOf (now (reason .entry)) reasons)) ⌝ }
+pub fn reason_unknown(kind: u8, reason: &[u8]) -> bool
+    ensures { λ r. ⌜ r ≡ reasonUnknown kind (now (reason .entry)) ⌝ }
 {
-    if returned {
+    if kind == sheet::RETURN {
         !wording::known_reason(reason)
     } else {
         false
@@ -93,75 +127,19 @@ pub fn reason_unknown(returned: bool, reason: &[u8]) -> bool
 }
 
 // Whether a return names no message that may be returned.
-pub fn name_unknown(returned: bool, name: &[u8]) -> bool
-    ensures { λ r. ⌜ r ≡ (returned && not (oneOf (now (name .entry)) names)) ⌝ }
+pub fn name_unknown(kind: u8, name: &[u8]) -> bool
+    ensures { λ r. ⌜ r ≡ nameUnknown kind (now (name .entry)) ⌝ }
 {
-    if returned {
+    if kind == sheet::RETURN {
         !wording::known_name(name)
     } else {
         false
     }
 }
 
-// The faults of a bulk, whose section holds so many messages with amounts of so many cents.
-pub fn bulk_faults(
-    date: u32,
-    table: &[u8],
-    register: &[u8],
-    sheet: &[u8],
-    header: Header,
-    row: Found,
-    number: u64,
-    sum: Halves,
-) -> u16
-    requires { ⌜ BulkAsked date (now table) (now sheet) header row ⌝ }
-    ensures { λ r. ⌜ r ≡ bulkFaults date (now (table .entry)) (now (register .entry)) (part (now (sheet .entry)) (header .at) headerWidth) number (wholeOf sum) ⌝ }
+// Whether a return is over another amount than the original.
+pub fn amount_differs(kind: u8, amount: u64, original: u64) -> bool
+    ensures { λ r. ⌜ r ≡ amountDiffers kind amount original ⌝ }
 {
-    let at = header.at;
-    let sender = wire::text_at(sheet, at + 36, 8);
-    let identifier = wire::text_at(sheet, at + 1, 35);
-    let entry = register::entry_of(sender, identifier, 2);
-    masks::of_bulk(
-        marks_wrong(header.marks),
-        no_participant(table, row),
-        header.date != date,
-        wording::badly_formed(identifier),
-        register::stands(register, &entry),
-        number == 0,
-        header.number != number,
-        sum_wrong(header.sum, sum),
-    )
-}
-
-// The faults of a message of that bulk.
-pub fn message_faults(
-    table: &[u8],
-    register: &[u8],
-    sheet: &[u8],
-    header: Header,
-    message: Message,
-    row: Found,
-    date: u32,
-) -> u16
-    requires { ⌜ MessageAsked date (now table) (now sheet) header message row ⌝ }
-    ensures { λ r. ⌜ r ≡ messageFaults date (now (table .entry)) (now (register .entry)) (part (now (sheet .entry)) (header .at) headerWidth) (part (now (sheet .entry)) (message .at) messageWidth) ⌝ }
-{
-    let at = message.at;
-    let place = header.at;
-    let sender = wire::text_at(sheet, place + 36, 8);
-    let identifier = wire::text_at(sheet, at, 35);
-    let reason = wire::text_at(sheet, at + 62, 4);
-    let name = wire::text_at(sheet, at + 66, 15);
-    let entry = register::entry_of(sender, identifier, 1);
-    masks::of_message(
-        wording::badly_formed(identifier),
-        register::stands(register, &entry),
-        !wording::bic_formed(wire::text_at(sheet, at + 35, 11)),
-        unreachable(table, row),
-        amount_wrong(message.amount),
-        tells_original(header.kind == 1, message.original, reason, name),
-        reason_unknown(header.kind == 3, reason),
-        name_unknown(header.kind == 3, name),
-        (header.kind == 3) & (message.amount != message.original),
-    )
+    (kind == sheet::RETURN) & (amount != original)
 }

@@ -1,8 +1,8 @@
--- `rules::masks::flag` meets its contract. Assumes nothing.
-use Rattle.rules.proofs.Laws.{flag-set}
+-- `masks::flag` meets its contract. Assumes nothing.
+use Rattle.masks.proofs.Setting.{flag-set}
 use borrow.Author.Needs.{needs}
-use Rattle.rules.proofs.masks.flag.Statement.{statement}
-use Rattle.rules.proofs.masks.flag.Tie as tie
+use Rattle.masks.proofs.flag.Statement.{statement}
+use Rattle.masks.proofs.flag.Tie as tie
 
 returns : tie.Need-returns
 returns c = flag-set (c .args .so-far) (c .args .k) (c .args .fact) (c .pre .0) (c .pre .1)

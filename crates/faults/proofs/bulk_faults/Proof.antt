@@ -1,0 +1,59 @@
+-- `faults::bulk_faults` meets its contract: each bit is set above those before it, by its own fact of the header's own fields.
+-- Assumes nothing.
+use mathlib.Core.Path.{ap, _∙_}
+use mathlib.Core.List.{[]}
+use Rattle.masks.proofs.Laws.{no-facts, flag-next}
+use Rattle.wording.specs.Wording.{badlyFormed}
+use Rattle.register.specs.Register.{bulkTag}
+use Rattle.tally.specs.Tally.{centsOf}
+use Rattle.rules.specs.OfBulk.{marksWrong, noParticipant, dateWrong, repeated, numberWrong, sumWrong}
+use Rattle.faults.specs.Faults.{bulkFaults}
+use Rattle.faults.proofs.Laws.{bulk-parts}
+use borrow.Author.Needs.{needs}
+use Rattle.faults.proofs.bulk_faults.Statement.{statement}
+use Rattle.faults.proofs.bulk_faults.Tie as tie
+
+repeated-requires : tie.Need-repeated-requires
+repeated-requires c κs =
+    let read = c .before .before .before .before .before .before .before .before in
+    let start = read .before .before .before .before .before in
+    bulk-parts (start .args .terms) (start .args .sheet .now) (start .args .table .now) (start .args .header) (start .args .row) _ _ (start .pre) (read .before .sender .ensures) (read .identifier .ensures)
+
+returns : tie.Need-returns
+unfolding bulkFaults
+returns c =
+    let at7 = c .before .before in
+    let at6 = at7 .before .before in
+    let at5 = at6 .before .before in
+    let at4 = at5 .before .before in
+    let at3 = at4 .before .before in
+    let at2 = at3 .before .before in
+    let at1 = at2 .before .before in
+    let read = at1 .before .before in
+    let start = read .before .before .before .before .before in
+    let a = start .args in
+    let asked = start .pre in
+    let sender = read .before .sender .ensures in
+    let identifier = read .identifier .ensures in
+    let m0 = flag-next 0 [] _ _ _ no-facts (at1 .flag .ensures .0) (at1 .before .marks-wrong .ensures ∙ ap marksWrong (asked .read .marks)) in
+    let m1 = flag-next _ _ _ _ _ m0 (at2 .flag2 .ensures .0) (at2 .before .no-participant .ensures ∙ ap (noParticipant (a .table .now)) (asked .found)) in
+    let m2 = flag-next _ _ _ _ _ m1 (at3 .flag3 .ensures .0) (at3 .before .date-wrong .ensures ∙ ap (dateWrong (a .terms)) (asked .read .date)) in
+    let m3 = flag-next _ _ _ _ _ m2 (at4 .flag4 .ensures .0) (at4 .before .badly-formed .ensures ∙ ap badlyFormed identifier) in
+    let m4 = flag-next _ _ _ _ _ m3 (at5 .flag5 .ensures .0) (at5 .before .repeated .ensures ∙ (λ i. repeated (a .register .now) (sender i) (identifier i) bulkTag)) in
+    let m5 = flag-next _ _ _ _ _ m4 (at6 .flag6 .ensures .0) (at6 .before .empty .ensures) in
+    let m6 = flag-next _ _ _ _ _ m5 (at7 .flag7 .ensures .0) (at7 .before .number-wrong .ensures ∙ (λ i. numberWrong (asked .read .number i) (a .number))) in
+    flag-next _ _ _ _ _ m6 (c .flag8 .ensures .0) (c .before .sum-wrong .ensures ∙ (λ i. sumWrong (asked .read .sum i) (centsOf (a .sum))))
+
+pub bulk-faults-spec : {M : Type 1} → statement M
+bulk-faults-spec =
+    tie.close
+    (tie.spec (λ c κs. search needs) (λ c κs. search needs)
+    (λ c κs. search needs) (λ c κs. search needs)
+    (λ c κs. search needs) (λ c κs. search needs)
+    (λ c κs. search needs) (λ c κs. search needs)
+    (λ c κs. search needs) (λ c κs. search needs)
+    repeated-requires (λ c κs. search needs)
+    (λ c κs. search needs) (λ c κs. search needs)
+    (λ c κs. search needs) (λ c κs. search needs)
+    (λ c κs. search needs) (λ c κs. search needs)
+    returns)

@@ -1,0 +1,58 @@
+-- All facts against a bulk and against a message, in the order of their bits, and the mask that shows them. Assumes nothing.
+use Prim.Native.Nat.{ℕ}
+use mathlib.Core.Bool.{Bool}
+use mathlib.Core.List.{List, [], _∷_}
+use mathlib.Core.Option.{Option}
+use Rattle.masks.specs.Mask.{mask}
+use Rattle.routing.specs.Lookup.{rowOf, headOffice, route}
+use Rattle.sheet.specs.Sheet.{kindOf, bulkIdentifierOf, senderOf, statedNumberOf, statedSumOf, valueDateOf, marksOf, identifierOf, receiverOf, amountOf, originalOf, reasonOf, nameOf}
+use Rattle.register.specs.Register.{messageTag, bulkTag}
+use Rattle.wording.specs.Wording.{badlyFormed}
+use Rattle.rules.specs.declared.Terms.{Terms}
+use Rattle.rules.specs.OfBulk.{marksWrong, noParticipant, dateWrong, repeated, empty, numberWrong, sumWrong}
+use Rattle.rules.specs.OfMessage.{receiverBadlyFormed, unreachable, amountWrong, tellsOriginal, reasonUnknown, nameUnknown, amountDiffers}
+
+-- ---- the rows
+
+-- of a bulk's sender: the first that counts of the sender followed by XXX
+abbrev pub senderRow : Terms → List ℕ → List ℕ → Option ℕ
+senderRow terms table header = rowOf (terms .date) table (headOffice (senderOf header))
+
+-- of a message's receiver: its own, else its head office's
+abbrev pub receiverRow : Terms → List ℕ → List ℕ → Option ℕ
+receiverRow terms table message = route (terms .date) table (receiverOf message)
+
+-- ---- a bulk: of a header whose section holds so many messages, with amounts of so many cents
+
+abbrev pub bulkFacts : Terms → List ℕ → List ℕ → List ℕ → ℕ → ℕ → List Bool
+bulkFacts terms table register header number sum =
+    marksWrong (marksOf header)
+    ∷ noParticipant table (senderRow terms table header)
+    ∷ dateWrong terms (valueDateOf header)
+    ∷ badlyFormed (bulkIdentifierOf header)
+    ∷ repeated register (senderOf header) (bulkIdentifierOf header) bulkTag
+    ∷ empty number
+    ∷ numberWrong (statedNumberOf header) number
+    ∷ sumWrong (statedSumOf header) sum
+    ∷ []
+
+unfoldable pub bulkFaults : Terms → List ℕ → List ℕ → List ℕ → ℕ → ℕ → ℕ
+bulkFaults terms table register header number sum = mask (bulkFacts terms table register header number sum)
+
+-- ---- a message, of a bulk with this header
+
+abbrev pub messageFacts : Terms → List ℕ → List ℕ → List ℕ → List ℕ → List Bool
+messageFacts terms table register header message =
+    badlyFormed (identifierOf message)
+    ∷ repeated register (senderOf header) (identifierOf message) messageTag
+    ∷ receiverBadlyFormed (receiverOf message)
+    ∷ unreachable table (receiverRow terms table message)
+    ∷ amountWrong (amountOf message)
+    ∷ tellsOriginal (kindOf header) (originalOf message) (reasonOf message) (nameOf message)
+    ∷ reasonUnknown (kindOf header) (reasonOf message)
+    ∷ nameUnknown (kindOf header) (nameOf message)
+    ∷ amountDiffers (kindOf header) (amountOf message) (originalOf message)
+    ∷ []
+
+unfoldable pub messageFaults : Terms → List ℕ → List ℕ → List ℕ → List ℕ → ℕ
+messageFaults terms table register header message = mask (messageFacts terms table register header message)
