@@ -1,11 +1,11 @@
--- A call that is not refused: what each of the eleven conditions then says, and that they are all there is. Assumes nothing.
-use mathlib.Core.Path.{_≡_, refl, sym, ap}
+-- A call that is not refused: what each of the conditions then says, and that they are all there is. Assumes nothing.
+use mathlib.Core.Path.{_≡_, refl, sym, ap, _∙_}
 use mathlib.Core.Bool.{Bool, true, false, cond, not, _&&_, _||_, false≢true}
 use mathlib.Core.List.{List, [], _∷_, _++_, map}
 use Prim.Native.Nat.{ℕ, _+_, _*_, _≤_}
 use lib.Dec.{eqb, ltb}
 use lib.ListN.{length}
-use borrow.Author.Tests.{eqb-true, eqb-false, ltb-false, not-false, le-ltb, eq-eqb, ne-eqb}
+use borrow.Author.Tests.{eqb-true, eqb-false, ltb-false, not-false, le-ltb, eq-eqb}
 use Rattle.calendar.specs.Date.{isDate}
 use Rattle.routing.specs.Table.{rows, wellFormed}
 use Rattle.register.specs.Register.{free, wellFormed as registerFormed}
@@ -14,20 +14,77 @@ use Rattle.register.proofs.Laws.{formed-told, well-formed}
 use Rattle.positions.specs.Positions.{positionWidth, roomForAll}
 use Rattle.sheet.specs.Sheet.{Bulk, bulkCount, messageCount, bulksOf, firstSection, whole, kindOf, knownKind, paymentKind, returnKind, headersOf, kindsKnown, mixed}
 use Rattle.sheet.proofs.Laws.{bulks-headers}
-use Rattle.rules.specs.Facts.{mostCents}
+use Rattle.rules.specs.OfMessage.{mostCents}
 use Rattle.report.specs.Line.{reportLength}
-use Rattle.judging.specs.Refusals.{Call, numberOf, mostBulks, mostMessages, holds, refusals, firstHolding, refusal}
-use Rattle.judging.specs.Outcome.{judgement, judgedOf, turnedAway, outcome}
-use Rattle.judging.specs.declared.Refusal.{Refusal}
-use Rattle.judging.proofs.Whole.{some-number}
+use Rattle.refusing.specs.Refusals.{Call, refusalNumber, mostBulks, mostMessages, holds, refusals, firstHolding, refusal}
+use Rattle.refusing.specs.Checking.{fromIn, from}
+use Rattle.refusing.specs.declared.Refusal.{Refusal}
+use Rattle.refusing.specs.declared.Refusal.the-variants.{Date, Table, Positions, Register, Sheet, Size, Kind, Order, Room, Limit, Space}
 
--- ---- the conditions
+-- ---- every refusal has a number, and stands in the order
+
+pub some-number : (r : Refusal) → eqb (refusalNumber r) 0 ≡ false
+some-number Date = refl
+some-number Table = refl
+some-number Positions = refl
+some-number Register = refl
+some-number Sheet = refl
+some-number Size = refl
+some-number Kind = refl
+some-number Order = refl
+some-number Room = refl
+some-number Limit = refl
+some-number Space = refl
+
+listed : (r : Refusal) → (later : List Refusal) × (from r ≡ r ∷ later)
+listed Date = (_, refl)
+listed Table = (_, refl)
+listed Positions = (_, refl)
+listed Register = (_, refl)
+listed Sheet = (_, refl)
+listed Size = (_, refl)
+listed Kind = (_, refl)
+listed Order = (_, refl)
+listed Room = (_, refl)
+listed Limit = (_, refl)
+listed Space = (_, refl)
+
+-- ---- where the first that holds is none, none holds
+
+first-none : (r : Refusal) (rs : List Refusal) (call : Call) → firstHolding (r ∷ rs) call ≡ 0 → (holds r call ≡ false) × (firstHolding rs call ≡ 0)
+unfolding firstHolding
+first-none r rs call e = by-test (holds r call) refl e
+  where
+    by-test : (t : Bool) → holds r call ≡ t → cond t (refusalNumber r) (firstHolding rs call) ≡ 0 → (holds r call ≡ false) × (firstHolding rs call ≡ 0)
+    by-test true h e = absurd (eqb-false (refusalNumber r) 0 (some-number r) e)
+    by-test false h e = (h, e)
+
+none-later : (rs : List Refusal) (r : Refusal) (call : Call) → firstHolding rs call ≡ 0 → firstHolding (fromIn rs r) call ≡ 0
+none-later [] r call e = e
+none-later (x ∷ xs) r call e = by-test (eqb (refusalNumber x) (refusalNumber r)) (none-later xs r call (first-none x xs call e .1))
+  where
+    by-test : (t : Bool) → firstHolding (fromIn xs r) call ≡ 0 → firstHolding (cond t (x ∷ xs) (fromIn xs r)) call ≡ 0
+    by-test true later = e
+    by-test false later = later
+
+none-holds : (call : Call) → refusal call ≡ 0 → (r : Refusal) → holds r call ≡ false
+unfolding refusal
+none-holds call e r =
+    let there = listed r in
+    first-none r (there .0) call (sym (ap (λ (rs : List Refusal). firstHolding rs call) (there .1)) ∙ none-later refusals r call e) .0
+
+holds-none : (rs : List Refusal) (call : Call) → ((r : Refusal) → holds r call ≡ false) → firstHolding rs call ≡ 0
+unfolding firstHolding
+holds-none [] call none = refl
+holds-none (r ∷ rs) call none = rw (none r) (holds-none rs call none)
+
+-- ---- the conditions, none of which holds
 
 abbrev pub headers : List Bulk → List (List ℕ)
 headers bs = map (λ b. b .header) bs
 
 pub record Clear (call : Call) : Type 0 where
-  pub date : isDate (call .date) ≡ true
+  pub date : isDate (call .terms .date) ≡ true
   pub table : wellFormed (call .table) ≡ true
   pub places : length (call .positions) ≡ positionWidth * rows (call .table)
   pub formed : Formed (call .register)
@@ -40,25 +97,6 @@ pub record Clear (call : Call) : Type 0 where
   pub limit : roomForAll (call .positions) (messageCount (call .sheet) * mostCents) ≡ true
   pub space : reportLength (bulkCount (call .sheet)) (messageCount (call .sheet)) ≤ length (call .report)
 
--- none of these holds
-unfoldable NoneHold : List Refusal → Call → Type 0
-NoneHold [] call = Unit {0}
-NoneHold (r ∷ rs) call = (holds r call ≡ false) × NoneHold rs call
-
-none-hold : (rs : List Refusal) (call : Call) → firstHolding rs call ≡ 0 → NoneHold rs call
-unfolding firstHolding NoneHold
-none-hold [] call e = tt
-none-hold (r ∷ rs) call e = by-test (none-hold rs call) (holds r call) refl e
-  where
-    by-test : (firstHolding rs call ≡ 0 → NoneHold rs call) → (t : Bool) → holds r call ≡ t → cond t (numberOf r) (firstHolding rs call) ≡ 0 → (holds r call ≡ false) × NoneHold rs call
-    by-test later true h e = absurd (eqb-false (numberOf r) 0 (some-number r) e)
-    by-test later false h e = (h, later e)
-
-hold-none : (rs : List Refusal) (call : Call) → NoneHold rs call → firstHolding rs call ≡ 0
-unfolding firstHolding NoneHold
-hold-none [] call n = refl
-hold-none (r ∷ rs) call n = rw (n .0) (hold-none rs call (n .1))
-
 or-false : (a b : Bool) → (a || b) ≡ false → (a ≡ false) × (b ≡ false)
 or-false true b e = absurd (false≢true (sym e))
 or-false false b e = (refl, e)
@@ -68,80 +106,41 @@ headers-of : (s : List ℕ) → headers (bulksOf s) ≡ headersOf s (bulkCount s
 headers-of s = bulks-headers s (bulkCount s) 4 (firstSection s)
 
 pub clear-of : (call : Call) → refusal call ≡ 0 → Clear call
-unfolding refusal holds NoneHold
+unfolding holds
 clear-of call e =
-    let n = none-hold refusals call e in
-    let size = or-false (ltb mostBulks (bulkCount (call .sheet))) (ltb mostMessages (messageCount (call .sheet))) (n .1 .1 .1 .1 .1 .0) in
+    let none = none-holds call e in
+    let size = or-false (ltb mostBulks (bulkCount (call .sheet))) (ltb mostMessages (messageCount (call .sheet))) (none Size) in
     record {
-      date = not-false (isDate (call .date)) (n .0);
-      table = not-false (wellFormed (call .table)) (n .1 .0);
-      places = eqb-true (length (call .positions)) (positionWidth * rows (call .table)) (not-false _ (n .1 .1 .0));
-      formed = formed-told (call .register) (registerFormed (call .register)) refl .formed (not-false (registerFormed (call .register)) (n .1 .1 .1 .0));
-      whole = not-false (whole (call .sheet)) (n .1 .1 .1 .1 .0);
+      date = not-false (isDate (call .terms .date)) (none Date);
+      table = not-false (wellFormed (call .table)) (none Table);
+      places = eqb-true (length (call .positions)) (positionWidth * rows (call .table)) (not-false _ (none Positions));
+      formed = formed-told (call .register) (registerFormed (call .register)) refl .formed (not-false (registerFormed (call .register)) (none Register));
+      whole = not-false (whole (call .sheet)) (none Sheet);
       fewBulks = ltb-false mostBulks (bulkCount (call .sheet)) (size .0);
       fewMessages = ltb-false mostMessages (messageCount (call .sheet)) (size .1);
-      kinds = rw (headers-of (call .sheet)) (not-false (kindsKnown (headersOf (call .sheet) (bulkCount (call .sheet)))) (n .1 .1 .1 .1 .1 .1 .0));
-      order = rw (headers-of (call .sheet)) (n .1 .1 .1 .1 .1 .1 .1 .0);
-      room = ltb-false (free (call .register)) (bulkCount (call .sheet) + messageCount (call .sheet)) (n .1 .1 .1 .1 .1 .1 .1 .1 .0);
-      limit = not-false (roomForAll (call .positions) (messageCount (call .sheet) * mostCents)) (n .1 .1 .1 .1 .1 .1 .1 .1 .1 .0);
-      space = ltb-false (length (call .report)) (reportLength (bulkCount (call .sheet)) (messageCount (call .sheet))) (n .1 .1 .1 .1 .1 .1 .1 .1 .1 .1 .0);
+      kinds = rw (headers-of (call .sheet)) (not-false (kindsKnown (headersOf (call .sheet) (bulkCount (call .sheet)))) (none Kind));
+      order = rw (headers-of (call .sheet)) (none Order);
+      room = ltb-false (free (call .register)) (bulkCount (call .sheet) + messageCount (call .sheet)) (none Room);
+      limit = not-false (roomForAll (call .positions) (messageCount (call .sheet) * mostCents)) (none Limit);
+      space = ltb-false (length (call .report)) (reportLength (bulkCount (call .sheet)) (messageCount (call .sheet))) (none Space);
     }
 
 pub of-clear : (call : Call) → Clear call → refusal call ≡ 0
-unfolding refusal holds NoneHold
-of-clear call c =
-    hold-none refusals call (
-      ap not (c .date),
-      (
-        ap not (c .table),
-        (
-          ap not (eq-eqb (length (call .positions)) (positionWidth * rows (call .table)) (c .places)),
-          (
-            ap not (well-formed (call .register) (c .formed)),
-            (
-              ap not (c .whole),
-              (
-                rw (le-ltb mostBulks (bulkCount (call .sheet)) (c .fewBulks), le-ltb mostMessages (messageCount (call .sheet)) (c .fewMessages)),
-                (
-                  ap not (rw (headers-of (call .sheet)) at (c .kinds)),
-                  (
-                    rw (headers-of (call .sheet)) at (c .order),
-                    (
-                      le-ltb (free (call .register)) (bulkCount (call .sheet) + messageCount (call .sheet)) (c .room),
-                      (
-                        ap not (c .limit),
-                        (
-                          le-ltb (length (call .report)) (reportLength (bulkCount (call .sheet)) (messageCount (call .sheet))) (c .space),
-                          tt,
-                        ),
-                      ),
-                    ),
-                  ),
-                ),
-              ),
-            ),
-          ),
-        ),
-      ),
-    )
-
--- ---- the outcome
-
-pub number-is : (call : Call) → outcome call .number ≡ refusal call
-unfolding outcome
-number-is call = by-test (eqb (refusal call) 0) refl
+unfolding refusal holds
+of-clear call c = holds-none refusals call none
   where
-    by-test : (t : Bool) → eqb (refusal call) 0 ≡ t → cond t (judgedOf call (judgement call)) (turnedAway (refusal call) call) .number ≡ refusal call
-    by-test true e = sym (eqb-true (refusal call) 0 e)
-    by-test false e = refl
-
-pub outcome-judged : (call : Call) → refusal call ≡ 0 → outcome call ≡ judgedOf call (judgement call)
-unfolding outcome
-outcome-judged call e = rw e
-
-pub outcome-refused : (call : Call) → (refusal call ≡ 0 → ⊥) → outcome call ≡ turnedAway (refusal call) call
-unfolding outcome
-outcome-refused call e = rw (ne-eqb (refusal call) 0 e)
+    none : (r : Refusal) → holds r call ≡ false
+    none Date = ap not (c .date)
+    none Table = ap not (c .table)
+    none Positions = ap not (eq-eqb (length (call .positions)) (positionWidth * rows (call .table)) (c .places))
+    none Register = ap not (well-formed (call .register) (c .formed))
+    none Sheet = ap not (c .whole)
+    none Size = rw (le-ltb mostBulks (bulkCount (call .sheet)) (c .fewBulks), le-ltb mostMessages (messageCount (call .sheet)) (c .fewMessages))
+    none Kind = ap not (rw (headers-of (call .sheet)) at (c .kinds))
+    none Order = rw (headers-of (call .sheet)) at (c .order)
+    none Room = le-ltb (free (call .register)) (bulkCount (call .sheet) + messageCount (call .sheet)) (c .room)
+    none Limit = ap not (c .limit)
+    none Space = le-ltb (length (call .report)) (reportLength (bulkCount (call .sheet)) (messageCount (call .sheet))) (c .space)
 
 -- ---- the kinds of the first bulks, and of the others
 

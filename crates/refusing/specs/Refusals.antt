@@ -1,4 +1,4 @@
--- When a whole file is turned away: the conditions in their order, in one place. Assumes nothing.
+-- When a whole file is turned away: the conditions, and their order in one list. Assumes nothing.
 use Prim.Native.Nat.{ℕ, _+_, _*_}
 use mathlib.Core.Bool.{Bool, false, cond, not, _||_}
 use mathlib.Core.List.{List, [], _∷_}
@@ -9,32 +9,33 @@ use Rattle.routing.specs.Table.{rows, wellFormed}
 use Rattle.register.specs.Register.{free, wellFormed as registerFormed}
 use Rattle.positions.specs.Positions.{positionWidth, roomForAll}
 use Rattle.sheet.specs.Sheet.{bulkCount, messageCount, whole, headersOf, kindsKnown, mixed}
-use Rattle.rules.specs.Facts.{mostCents}
+use Rattle.rules.specs.declared.Terms.{Terms}
+use Rattle.rules.specs.OfMessage.{mostCents}
 use Rattle.report.specs.Line.{reportLength}
-use Rattle.judging.specs.declared.Refusal.{Refusal}
-use Rattle.judging.specs.declared.Refusal.the-variants.{Date, Table, Positions, Register, Sheet, Size, Kind, Order, Room, Limit, Space}
+use Rattle.refusing.specs.declared.Refusal.{Refusal}
+use Rattle.refusing.specs.declared.Refusal.the-variants.{Date, Table, Positions, Register, Sheet, Size, Kind, Order, Room, Limit, Space}
 
 -- what a call is given
 pub record Call : Type 0 where
-  pub date : ℕ
+  pub terms : Terms
   pub sheet : List ℕ
   pub table : List ℕ
   pub register : List ℕ
   pub positions : List ℕ
   pub report : List ℕ
 
-abbrev pub numberOf : Refusal → ℕ
-numberOf Date = 1
-numberOf Table = 2
-numberOf Positions = 3
-numberOf Register = 4
-numberOf Sheet = 5
-numberOf Size = 6
-numberOf Kind = 7
-numberOf Order = 8
-numberOf Room = 9
-numberOf Limit = 10
-numberOf Space = 11
+abbrev pub refusalNumber : Refusal → ℕ
+refusalNumber Date = 1
+refusalNumber Table = 2
+refusalNumber Positions = 3
+refusalNumber Register = 4
+refusalNumber Sheet = 5
+refusalNumber Size = 6
+refusalNumber Kind = 7
+refusalNumber Order = 8
+refusalNumber Room = 9
+refusalNumber Limit = 10
+refusalNumber Space = 11
 
 abbrev pub mostBulks : ℕ
 mostBulks = 999
@@ -44,7 +45,7 @@ mostMessages = 15000
 
 -- whether a refusal's condition holds of a call
 unfoldable pub holds : Refusal → Call → Bool
-holds Date call = not (isDate (call .date))
+holds Date call = not (isDate (call .terms .date))
 holds Table call = not (wellFormed (call .table))
 holds Positions call = not (eqb (length (call .positions)) (positionWidth * rows (call .table)))
 holds Register call = not (registerFormed (call .register))
@@ -63,7 +64,7 @@ refusals = Date ∷ Table ∷ Positions ∷ Register ∷ Sheet ∷ Size ∷ Kind
 -- the number of the first that holds, or 0
 unfoldable pub firstHolding : List Refusal → Call → ℕ
 firstHolding [] call = 0
-firstHolding (r ∷ rs) call = let later = firstHolding rs call in cond (holds r call) (numberOf r) later
+firstHolding (r ∷ rs) call = let later = firstHolding rs call in cond (holds r call) (refusalNumber r) later
 
 unfoldable pub refusal : Call → ℕ
 refusal call = firstHolding refusals call

@@ -1,0 +1,2 @@
+mod Checking
+pub mod Clear
