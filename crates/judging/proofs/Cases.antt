@@ -7,16 +7,18 @@ use lib.ListN.{length, replicate}
 use Rattle.wire.specs.Field.{text, bytesOf, numberFrom, same}
 use Rattle.wire.specs.Places.{firstFrom, everyFrom}
 use Rattle.calendar.specs.Date.{isDate, daysIn, leap}
+use Rattle.masks.specs.Mask.{mask}
 use Rattle.routing.specs.Table.{wellFormed, kindsKnown}
 use Rattle.routing.specs.Lookup.{rowOf, route}
-use Rattle.register.specs.Register.{search, stands, add, wellFormed as registerFormed}
+use Rattle.register.specs.Register.{entry, search, stands, add, wellFormed as registerFormed}
 use Rattle.positions.specs.Positions.{roomForAll, gains, loses}
-use Rattle.sheet.specs.Sheet.{recordsAt, bulksFrom, endFrom, messagesFrom, whole, shape, mixed, kindsKnown as sheetKinds}
+use Rattle.sheet.specs.Sheet.{messageWidth, recordsAt, bulksFrom, endFrom, messagesFrom, whole, shape, mixed, kindsKnown as sheetKinds}
 use Rattle.wording.specs.Wording.{among, allowed, kept, formed, badlyFormed, bicFormed, blank, oneOf}
-use Rattle.rules.specs.Facts.{mask, bulkFaults, messageFaults}
-use Rattle.report.specs.Line.{bulkLine, messageLine}
-use Rattle.judging.specs.Judgement.{sumOf, afterMessage, lineOf, counted, judgeMessages, bulkLineOf, sectionOf, afterBulk, judgeBulks}
-use Rattle.judging.specs.Refusals.{Call, holds, firstHolding, refusal}
+use Rattle.faults.specs.Faults.{bulkFaults, messageFaults}
+use Rattle.report.specs.Line.{messageLineWidth, bulkLine, messageLine}
+use Rattle.refusing.specs.Refusals.{Call, holds, firstHolding, refusal}
+use Rattle.messages.specs.Messages.{sumOf, afterMessage, lineOf, counted, judgeMessages}
+use Rattle.judging.specs.Judgement.{bulkLineOf, sectionOf, afterBulk, judgeBulks}
 use Rattle.judging.specs.Outcome.{Outcome, outcome}
 
 padded : ℕ → String → List ℕ
@@ -32,7 +34,7 @@ message identifier receiver amount =
 call : Call
 call =
     record {
-      date = 20260615;
+      terms = record { date = 20260615 };
       sheet =
           bytesOf 4 1
           ++ (1 ∷ [])
@@ -90,5 +92,5 @@ expected =
     }
 
 wholeCase : outcome call ≡ expected
-unfolding padded row message call expected bytesOf numberFrom same firstFrom everyFrom isDate daysIn leap wellFormed kindsKnown rowOf route search stands add registerFormed roomForAll gains loses recordsAt bulksFrom endFrom messagesFrom whole shape mixed sheetKinds among allowed kept formed badlyFormed bicFormed blank oneOf mask bulkFaults messageFaults bulkLine messageLine sumOf afterMessage lineOf counted judgeMessages bulkLineOf sectionOf afterBulk judgeBulks holds firstHolding refusal outcome
+unfolding padded row message call expected bytesOf numberFrom same firstFrom everyFrom isDate daysIn leap mask wellFormed kindsKnown rowOf route entry search stands add registerFormed roomForAll gains loses messageWidth recordsAt bulksFrom endFrom messagesFrom whole shape mixed sheetKinds among allowed kept formed badlyFormed bicFormed blank oneOf bulkFaults messageFaults messageLineWidth bulkLine messageLine sumOf afterMessage lineOf counted judgeMessages bulkLineOf sectionOf afterBulk judgeBulks holds firstHolding refusal outcome
 wholeCase = refl

@@ -1,13 +1,8 @@
-pub mod Amounts
-pub mod Cases
-pub mod Checking
-pub mod Clear
+mod Cases
+pub mod Answers
 pub mod Demands
-pub mod Loops
-pub mod Rounds
-pub mod Sections
-pub mod Sums
-pub mod Verdicts
-pub mod Walks
+mod Rounds
+mod Sections
+mod Walks
 pub mod Whole
 pub mod Widths

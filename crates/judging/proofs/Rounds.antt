@@ -6,133 +6,175 @@ use native.Mathlib.Nat.{sub-zero, le-of-eq}
 use native.Mathlib.Omega.{arith}
 use lib.ListN.{length, length-append}
 use lib.Seq.{sets}
+use Rattle.wire.proofs.Stores.{sets-then, sets-swap}
 use Rattle.routing.specs.Table.{rows}
-use Rattle.sheet.specs.Sheet.{headerWidth, countAt, afterSection, bulkAt, bulksFrom, bulksOf, bulkCount, endFrom, messagesFrom, messageCount}
-use Rattle.sheet.specs.Reading.{HeaderRead}
+use Rattle.sheet.specs.Sheet.{headerWidth, kindOf, headerAt, countAt, afterMessages, Bulk, bulkAt, bulksFrom, bulksOf, bulkCount, firstSection, endFrom, messagesFrom, messageCount}
+use Rattle.sheet.specs.Reading.{HeaderRead, Inside, BulkTaken}
 use Rattle.sheet.specs.declared.Header.{Header}
-use Rattle.sheet.proofs.Laws.{Inside, whole-facts, header-bound, end-step, end-bound, messages-step, bulks-step, bulks-end}
+use Rattle.sheet.specs.declared.Section.{Section}
+use Rattle.sheet.specs.declared.BulkRead.{BulkRead}
+use Rattle.sheet.proofs.Laws.{whole-facts, header-bound, end-step, end-bound, messages-step, bulks-step, bulks-end}
 use Rattle.positions.specs.Positions.{positionWidth}
-use Rattle.report.specs.Line.{messageLineWidth, bulkLineWidth}
-use Rattle.judging.specs.Refusals.{mostMessages}
-use Rattle.judging.specs.Judgement.{State, bulkLineOf, sectionOf, afterBulk, judgeBulks}
-use Rattle.judging.specs.Ready.{stateOf, bulkIn, HeaderReady, SectionReady, BulkSpace, BulkTold, BulksReady, BulksTold}
+use Rattle.rules.specs.declared.Terms.{Terms}
+use Rattle.tally.specs.Room.{mostCounted}
+use Rattle.report.specs.Line.{firstLine, sectionsPlace, afterLines, messageLineWidth, bulkLineWidth}
+use Rattle.report.specs.Told.{PlacesTold}
+use Rattle.report.specs.declared.Places.{Places}
+use Rattle.refusing.specs.Refusals.{mostMessages}
+use Rattle.refusing.specs.declared.Contents.{Contents}
+use Rattle.messages.specs.Messages.{State}
+use Rattle.messages.specs.Ready.{stateOf, SectionReady}
+use Rattle.judging.specs.Judgement.{bulkLineOf, sectionOf, afterBulk, judgeBulks}
+use Rattle.judging.specs.Ready.{bulkIn, HeaderReady, BulkSpace, BulkTold, BulksReady, BulksTold}
 use Rattle.judging.proofs.Walks.{after-bulk, bulk-lines, bulk-sections}
 use Rattle.judging.proofs.Widths.{section-wide, bulk-line-wide, bulk-lines-wide}
-use Rattle.wire.proofs.Stores.{sets-then, sets-swap}
 
-module _ (date : ℕ) (table sheet : List ℕ) (bulks : ℕ) (before : State) (report₀ : List ℕ) where
+pub sections-within : (sheet table positions report : List ℕ) (contents : Contents) → BulksReady sheet table positions report contents → sectionsPlace (contents .bulks) ≤ length report
+sections-within sheet table positions report contents ready = (let space = ready .space in omega arith)
+
+module _ (terms : Terms) (table sheet : List ℕ) (bulks : ℕ) (before : State) (report₀ : List ℕ) where
   pub record BulksLeft (register positions report : List ℕ) (head at line to k : ℕ) : Type 0 where
     pub low : k ≤ bulks
     pub headed : 4 + headerWidth * bulks ≤ length sheet
     pub headHere : head ≡ 4 + headerWidth * k
-    pub lineHere : line ≡ 4 + bulkLineWidth * k
-    pub toHere : 4 + bulkLineWidth * bulks ≤ to
-    pub ended : endFrom sheet (bulks - k) at ≡ length sheet
-    pub few : messagesFrom sheet (bulks - k) at ≤ mostMessages
-    pub space : to + 4 * (bulks - k) + messageLineWidth * messagesFrom sheet (bulks - k) at ≤ length report₀
+    pub lineHere : line ≡ firstLine + bulkLineWidth * k
+    pub toHere : sectionsPlace bulks ≤ to
+    pub ended : endFrom sheet (bulks - k) head at ≡ length sheet
+    pub few : messagesFrom sheet (bulks - k) head at ≤ mostMessages
+    pub space : to + 4 * (bulks - k) + messageLineWidth * messagesFrom sheet (bulks - k) head at ≤ length report₀
     pub registerWide : length register ≡ length (before .register)
     pub positionsWide : length positions ≡ length (before .positions)
     pub reportWide : length report ≡ length report₀
-    pub after : judgeBulks date table (bulksFrom sheet (bulks - k) head at) (stateOf register positions) .after ≡ judgeBulks date table (bulksOf sheet) before .after
+    pub after : judgeBulks terms table (bulksFrom sheet (bulks - k) head at) (stateOf register positions) .after ≡ judgeBulks terms table (bulksOf sheet) before .after
     pub written : sets
-        (sets report line (judgeBulks date table (bulksFrom sheet (bulks - k) head at) (stateOf register positions) .lines))
+        (sets report line (judgeBulks terms table (bulksFrom sheet (bulks - k) head at) (stateOf register positions) .lines))
         to
-        (judgeBulks date table (bulksFrom sheet (bulks - k) head at) (stateOf register positions) .sections)
-        ≡ sets (sets report₀ 4 (judgeBulks date table (bulksOf sheet) before .lines)) (4 + bulkLineWidth * bulks) (judgeBulks date table (bulksOf sheet) before .sections)
+        (judgeBulks terms table (bulksFrom sheet (bulks - k) head at) (stateOf register positions) .sections)
+        ≡ sets (sets report₀ firstLine (judgeBulks terms table (bulksOf sheet) before .lines)) (sectionsPlace bulks) (judgeBulks terms table (bulksOf sheet) before .sections)
 
-  pub bulks-start : (messages : ℕ) → BulksReady table sheet (before .positions) report₀ bulks messages
-      → BulksLeft (before .register) (before .positions) report₀ 4 (4 + headerWidth * bulks) 4 (4 + bulkLineWidth * bulks) 0
-  bulks-start messages ready =
-      let m = ready .measured in
+  pub bulks-start : (contents : Contents) → contents .bulks ≡ bulks → BulksReady sheet table (before .positions) report₀ contents
+      → (head at : ℕ) → head ≡ 4 → at ≡ firstSection sheet → (line to : ℕ) → line ≡ firstLine → to ≡ sectionsPlace bulks
+      → BulksLeft (before .register) (before .positions) report₀ head at line to 0
+  bulks-start contents holds ready head at eh ea line to el et =
+      let m = ready .few .measured in
       let facts = whole-facts sheet (m .whole) in
-      let count : bulks ≡ bulkCount sheet = m .bulkCount in
-      let held : messages ≡ messagesFrom sheet bulks (4 + headerWidth * bulks) = m .messageCount ∙ (rw count) in
+      let count : bulks ≡ bulkCount sheet = sym holds ∙ m .bulkCount in
+      let held : contents .messages ≡ messagesFrom sheet bulks head at = m .messageCount ∙ (rw (eh, ea, count)) in
       record {
         low = omega arith;
         headed = rw count (facts .headed);
         headHere = omega arith;
         lineHere = omega arith;
         toHere = omega arith;
-        ended = rw (sub-zero bulks, count) (facts .ended);
-        few = rw (sub-zero bulks, ← held) (ready .fewMessages);
+        ended = rw (sub-zero bulks, count, eh, ea) (facts .ended);
+        few = rw (sub-zero bulks, ← held) (ready .few .messages);
         space = (let s = ready .space in rw (sub-zero bulks, ← held) (omega arith));
         registerWide = refl;
         positionsWide = refl;
         reportWide = refl;
-        after = rw (sub-zero bulks, count);
-        written = rw (sub-zero bulks, count);
+        after = rw (sub-zero bulks, count, eh, ea);
+        written = rw (sub-zero bulks, eh, ea, el, et, count);
       }
 
   module _ (register positions report : List ℕ) (head at line to k : ℕ) (left : BulksLeft register positions report head at line to k) where
     pub header-within : k < bulks → head + headerWidth ≤ length sheet
     header-within h = rw (left .headHere) (header-bound sheet 4 bulks k (left .headed) h)
 
-    pub section-inside : k < bulks → Inside sheet at
-    section-inside h = end-bound sheet bulks k at h (le-of-eq (left .ended))
+    pub bulk-inside : k < bulks → Inside sheet head at
+    bulk-inside h = end-bound sheet bulks k head at h (header-within h) (le-of-eq (left .ended))
 
     module _ (h : k < bulks) where
-      messages-left : messagesFrom sheet (bulks - k) at ≡ countAt sheet at + messagesFrom sheet (bulks - (k + 1)) (afterSection sheet at)
-      messages-left = messages-step sheet bulks k at h
+      messages-left : messagesFrom sheet (bulks - k) head at ≡ countAt sheet at + messagesFrom sheet (bulks - (k + 1)) (head + headerWidth) (afterMessages sheet head at)
+      messages-left = messages-step sheet bulks k head at h
 
-      pub section-ready : (at' n : ℕ) → at' ≡ at + 4 → n ≡ countAt sheet at → SectionReady sheet at' n
-      section-ready at' n ea en =
-          record {
-            within = rw (ea, en) (section-inside h .messages);
-            few = (let few = left .few in let e = messages-left in rw en (omega arith));
-          }
+      -- so their lines take those of this bulk and of the rest
+      lines-left : messageLineWidth * messagesFrom sheet (bulks - k) head at
+          ≡ messageLineWidth * countAt sheet at + messageLineWidth * messagesFrom sheet (bulks - (k + 1)) (head + headerWidth) (afterMessages sheet head at)
+      lines-left = rw messages-left (omega arith)
 
-      pub bulk-space : (n : ℕ) → n ≡ countAt sheet at → BulkSpace report n line to
-      bulk-space n en =
-          let s = left .space in
-          let e = messages-left in
-          let w = left .reportWide in
-          let l = left .lineHere in
-          let t = left .toHere in
-          record { before = omega arith; space = rw (w, en) (omega arith) }
+      -- what the walk read is the bulk at its places
+      module _ (read : BulkRead) (taken : BulkTaken sheet head at read) where
+        pub section-ready : SectionReady sheet (read .header .kind) (read .section)
+        section-ready =
+            let inside = bulk-inside h in
+            record {
+              within = rw (taken .first, taken .number, taken .header .kind) (inside .messages);
+              few = (let few = left .few in let e = messages-left in rw (taken .number) (omega arith));
+            }
+
+        pub bulk-space : (places : Places) → places .line ≡ line → places .section ≡ to → BulkSpace report (read .section .number) places
+        bulk-space places el et =
+            let s = left .space in
+            let e = lines-left in
+            let w = left .reportWide in
+            let l = left .lineHere in
+            let t = left .toHere in
+            record { before = omega arith; space = rw (w, taken .number, et) (omega arith) }
+
+        pub header-ready : length positions ≡ positionWidth * rows table → HeaderReady sheet table positions (read .header)
+        header-ready places =
+            record {
+              within = rw (taken .header .place) (header-within h);
+              read = subst (λ (k : ℕ). HeaderRead sheet k (read .header)) (sym (taken .header .place)) (taken .header);
+              places = places;
+            }
+
+        bulk-there : bulkIn sheet (read .header) (read .section) ≡ bulkAt sheet head at
+        bulk-there = rw (taken .header .kind, taken .header .place, taken .first, taken .number)
+
+        pub told-there : (places : Places) (register' positions' report' : List ℕ) → places .line ≡ line → places .section ≡ to
+            → BulkTold terms table (bulkIn sheet (read .header) (read .section)) (stateOf register positions) report places register' positions' report'
+            → BulkTold terms table (bulkAt sheet head at) (stateOf register positions) report (record { line = line; section = to }) register' positions' report'
+        told-there places register' positions' report' el et told =
+            record {
+              register = told .register ∙ ap (λ (b : Bulk). afterBulk terms table b (stateOf register positions) .register) bulk-there;
+              positions = told .positions ∙ ap (λ (b : Bulk). afterBulk terms table b (stateOf register positions) .positions) bulk-there;
+              written = told .written ∙ (rw (bulk-there, el, et));
+            }
 
       -- the line and the section lie in the report, also as the judge of the bulk leaves it
       module _ (report' : List ℕ) (kept : length report' ≡ length report) where
-        pub section-within : (n : ℕ) → n ≡ countAt sheet at → to + 4 + messageLineWidth * n ≤ length report'
-        section-within n en = rw (kept, left .reportWide, en) (let s = left .space in let e = messages-left in omega arith)
+        pub section-within : (n : ℕ) → n ≡ countAt sheet at → afterLines to n ≤ length report'
+        section-within n en = rw (kept, left .reportWide, en) (let s = left .space in let e = lines-left in omega arith)
 
         pub line-within : line + bulkLineWidth ≤ length report'
         line-within = (let l = left .lineHere in let t = left .toHere in let s = section-within (countAt sheet at) refl in omega arith)
 
       module _ (register' positions' report' : List ℕ)
-          (told : BulkTold date table (bulkAt sheet head at) (stateOf register positions) report line to register' positions' report')
+          (told : BulkTold terms table (bulkAt sheet head at) (stateOf register positions) report (record { line = line; section = to }) register' positions' report')
           (kr : length register' ≡ length register) (kp : length positions' ≡ length positions) (kw : length report' ≡ length report)
-          (n head' at' line' to' : ℕ) (en : n ≡ countAt sheet at) (eh : head' ≡ head + headerWidth) (ea : at' ≡ afterSection sheet at)
-          (el : line' ≡ line + bulkLineWidth) (et : to' ≡ to + (4 + messageLineWidth * n)) where
-        split : bulksFrom sheet (bulks - k) head at ≡ bulkAt sheet head at ∷ bulksFrom sheet (bulks - (k + 1)) (head + headerWidth) (afterSection sheet at)
+          (n head' at' line' to' : ℕ) (en : n ≡ countAt sheet at) (eh : head' ≡ head + headerWidth) (ea : at' ≡ afterMessages sheet head at)
+          (el : line' ≡ line + bulkLineWidth) (et : to' ≡ afterLines to n) where
+        split : bulksFrom sheet (bulks - k) head at ≡ bulkAt sheet head at ∷ bulksFrom sheet (bulks - (k + 1)) (head + headerWidth) (afterMessages sheet head at)
         split = bulks-step sheet bulks k head at h
 
-        state-next : stateOf register' positions' ≡ afterBulk date table (bulkAt sheet head at) (stateOf register positions)
+        state-next : stateOf register' positions' ≡ afterBulk terms table (bulkAt sheet head at) (stateOf register positions)
         state-next = λ i. record { register = told .register i; positions = told .positions i }
 
         -- the lines and the sections that are left
         linesLeft : List ℕ
-        linesLeft = judgeBulks date table (bulksFrom sheet (bulks - (k + 1)) (head + headerWidth) (afterSection sheet at)) (afterBulk date table (bulkAt sheet head at) (stateOf register positions)) .lines
+        linesLeft = judgeBulks terms table (bulksFrom sheet (bulks - (k + 1)) (head + headerWidth) (afterMessages sheet head at)) (afterBulk terms table (bulkAt sheet head at) (stateOf register positions)) .lines
 
         sectionsLeft : List ℕ
-        sectionsLeft = judgeBulks date table (bulksFrom sheet (bulks - (k + 1)) (head + headerWidth) (afterSection sheet at)) (afterBulk date table (bulkAt sheet head at) (stateOf register positions)) .sections
+        sectionsLeft = judgeBulks terms table (bulksFrom sheet (bulks - (k + 1)) (head + headerWidth) (afterMessages sheet head at)) (afterBulk terms table (bulkAt sheet head at) (stateOf register positions)) .sections
 
         theLine : List ℕ
-        theLine = bulkLineOf date table (bulkAt sheet head at) (stateOf register positions)
+        theLine = bulkLineOf terms table (bulkAt sheet head at) (stateOf register positions)
 
         theSection : List ℕ
-        theSection = sectionOf date table (bulkAt sheet head at) (stateOf register positions)
+        theSection = sectionOf terms table (bulkAt sheet head at) (stateOf register positions)
 
         line-long : length theLine ≡ bulkLineWidth
         unfolding theLine
-        line-long = bulk-line-wide date table sheet (bulkAt sheet head at) head (stateOf register positions) refl (header-within h)
+        line-long = bulk-line-wide terms table sheet (bulkAt sheet head at) head (stateOf register positions) refl (header-within h)
 
         section-long : length theSection ≡ 4 + messageLineWidth * n
         unfolding theSection
-        section-long = rw en (section-wide date table sheet (bulkAt sheet head at) (countAt sheet at) (at + 4) (stateOf register positions) refl (section-inside h .messages))
+        section-long = rw en (section-wide terms table sheet (bulkAt sheet head at) (kindOf (headerAt sheet head)) (countAt sheet at) (at + 4) (stateOf register positions) refl (bulk-inside h .messages))
 
         left-long : length linesLeft ≡ bulkLineWidth * (bulks - (k + 1))
         unfolding linesLeft
-        left-long = bulk-lines-wide date table sheet (bulks - (k + 1)) (head + headerWidth) (afterSection sheet at) _ (let a = left .headHere in let b = left .headed in omega arith)
+        left-long = bulk-lines-wide terms table sheet (bulks - (k + 1)) (head + headerWidth) (afterMessages sheet head at) _ (let a = left .headHere in let b = left .headed in omega arith)
 
         apart : line + length (theLine ++ linesLeft) ≤ to
         apart =
@@ -143,10 +185,12 @@ module _ (date : ℕ) (table sheet : List ℕ) (bulks : ℕ) (before : State) (r
             rw (length-append theLine linesLeft) (omega arith)
 
         -- the bulk's two writes and what is left of each are two longer writes
-        joined : sets (sets (sets (sets report to theSection) line theLine) (line + bulkLineWidth) linesLeft) (to + (4 + messageLineWidth * n)) sectionsLeft
+        joined : sets (sets (sets (sets report to theSection) line theLine) (line + bulkLineWidth) linesLeft) (afterLines to n) sectionsLeft
             ≡ sets (sets report line (theLine ++ linesLeft)) to (theSection ++ sectionsLeft)
         joined =
-            ap (λ (r : List ℕ). sets r (to + (4 + messageLineWidth * n)) sectionsLeft)
+            let place : afterLines to n ≡ to + (4 + messageLineWidth * n) = omega arith in
+            ap (λ (a : ℕ). sets (sets (sets (sets report to theSection) line theLine) (line + bulkLineWidth) linesLeft) a sectionsLeft) place
+            ∙ ap (λ (r : List ℕ). sets r (to + (4 + messageLineWidth * n)) sectionsLeft)
             (sets-then (sets report to theSection) line bulkLineWidth theLine linesLeft line-long ∙ sym (sets-swap report line (theLine ++ linesLeft) to theSection apart))
             ∙ sets-then (sets report line (theLine ++ linesLeft)) to (4 + messageLineWidth * n) theSection sectionsLeft section-long
 
@@ -159,19 +203,19 @@ module _ (date : ℕ) (table sheet : List ℕ) (bulks : ℕ) (before : State) (r
               headHere = (let a = left .headHere in rw eh (omega arith));
               lineHere = (let a = left .lineHere in rw el (omega arith));
               toHere = (let a = left .toHere in rw et (omega arith));
-              ended = rw ea (sym (end-step sheet bulks k at h) ∙ left .ended);
-              few = (let a = left .few in let e = messages-left in rw ea (omega arith));
-              space = (let s = left .space in let e = messages-left in rw (ea, et, en) (omega arith));
+              ended = rw (eh, ea) (sym (end-step sheet bulks k head at h) ∙ left .ended);
+              few = (let a = left .few in let e = messages-left in rw (eh, ea) (omega arith));
+              space = (let s = left .space in let e = lines-left in rw (eh, ea, et, en) (omega arith));
               registerWide = kr ∙ left .registerWide;
               positionsWide = kp ∙ left .positionsWide;
               reportWide = kw ∙ left .reportWide;
-              after = rw (eh, ea, state-next) (after-bulk date table (bulkAt sheet head at) _ (stateOf register positions) ∙ (rw split at (left .after)));
+              after = rw (eh, ea, state-next) (after-bulk terms table (bulkAt sheet head at) _ (stateOf register positions) ∙ (rw split at (left .after)));
               written =
                   rw (eh, ea, state-next, el, et, told .written)
-                  (joined ∙ (rw (split, bulk-lines date table (bulkAt sheet head at) _ (stateOf register positions), bulk-sections date table (bulkAt sheet head at) _ (stateOf register positions)) at (left .written)));
+                  (joined ∙ (rw (split, bulk-lines terms table (bulkAt sheet head at) _ (stateOf register positions), bulk-sections terms table (bulkAt sheet head at) _ (stateOf register positions)) at (left .written)));
             }
 
-    pub bulks-ended : bulks ≤ k → BulksTold date table sheet bulks before report₀ register positions report
+    pub bulks-ended : bulks ≤ k → BulksTold terms table sheet bulks before report₀ register positions report
     unfolding judgeBulks
     bulks-ended h =
         let none = bulks-end sheet bulks k head at h in
@@ -181,20 +225,3 @@ module _ (date : ℕ) (table sheet : List ℕ) (bulks : ℕ) (before : State) (r
           positions = ap (λ (s : State). s .positions) ended;
           written = rw none at (left .written);
         }
-
--- ---- what a turn hands to the judge of one bulk
-
-pub header-ready : (table sheet positions : List ℕ) (at : ℕ) (header : Header) → HeaderRead sheet at header → at + headerWidth ≤ length sheet
-    → length positions ≡ positionWidth * rows table → HeaderReady table sheet positions header
-header-ready table sheet positions at header read within places =
-    record {
-      within = rw (read .place) within;
-      read = subst (λ (k : ℕ). HeaderRead sheet k header) (sym (read .place)) read;
-      places = places;
-    }
-
-pub told-there : (date : ℕ) (table sheet : List ℕ) (header : Header) (head at at' n : ℕ) (before : State) (report : List ℕ) (line to : ℕ) (register' positions' report' : List ℕ)
-    → header .at ≡ head → at' ≡ at + 4 → n ≡ countAt sheet at
-    → BulkTold date table (bulkIn sheet header at' n) before report line to register' positions' report'
-    → BulkTold date table (bulkAt sheet head at) before report line to register' positions' report'
-told-there date table sheet header head at at' n before report line to register' positions' report' eh ea en told = rw (eh, ea, en) at told

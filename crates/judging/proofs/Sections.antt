@@ -8,26 +8,32 @@ use lib.Dec.{eqb}
 use lib.ListN.{length, take, drop, length-take, length-drop}
 use lib.Seq.{sets, length-sets}
 use borrow.Author.Tests.{eq-eqb, ne-eqb}
-use Rattle.wire.specs.Field.{part, bytesOf}
+use Rattle.wire.specs.Field.{bytesOf}
 use Rattle.wire.proofs.Numbers.{bytes-length}
-use Rattle.wire.proofs.Texts.{part-length}
+use Rattle.wire.proofs.Stores.{sets-then}
 use Rattle.routing.specs.Lookup.{optionOf, rowOf, headOffice}
 use Rattle.routing.specs.Promise.{RowTold}
 use Rattle.routing.specs.declared.Found.{Found}
-use Rattle.sheet.specs.Sheet.{messageWidth}
+use Rattle.sheet.specs.Sheet.{messageWidth, senderOf, bulkIdentifierOf}
+use Rattle.sheet.specs.Reading.{headerIn}
 use Rattle.sheet.specs.declared.Header.{Header}
-use Rattle.sheet.proofs.Fields.{sender-there, bulk-identifier-there}
+use Rattle.sheet.specs.declared.Section.{Section}
+use Rattle.sheet.proofs.Fields.{sender-width, bulk-identifier-width}
 use Rattle.sheet.proofs.Laws.{records-length}
-use Rattle.register.specs.Register.{entry, bulkTag, add}
+use Rattle.register.specs.Register.{key, bulkTag, add}
 use Rattle.register.specs.Room.{Parts}
-use Rattle.rules.specs.Facts.{senderRow, bulkFaults}
-use Rattle.rules.specs.Asked.{BulkAsked}
-use Rattle.report.specs.Tally.{Totals, totalsOf}
-use Rattle.report.specs.Line.{bulkLine, bulkLineWidth, messageLineWidth}
-use Rattle.report.specs.declared.Tally.{Tally}
-use Rattle.judging.specs.Judgement.{State, judgeMessages, sumOf, bulkOutcome, faultsOfBulk, falls, messagesJudged, bulkLineOf, sectionOf, afterBulk}
-use Rattle.judging.specs.Ready.{headerIn, messagesIn, bulkIn, HeaderReady, BulkReady, BulkSpace, MessagesTold, BulkTold}
-use Rattle.wire.proofs.Stores.{sets-then}
+use Rattle.rules.specs.declared.Terms.{Terms}
+use Rattle.faults.specs.Faults.{senderRow, bulkFaults}
+use Rattle.faults.specs.Asked.{BulkAsked}
+use Rattle.tally.specs.Tally.{Totals, totalsOf}
+use Rattle.tally.specs.declared.Tally.{Tally}
+use Rattle.report.specs.Line.{bulkLine, bulkLineWidth, linesAt, messageLineWidth}
+use Rattle.report.specs.declared.Places.{Places}
+use Rattle.messages.specs.Messages.{State, judgeMessages, sumOf}
+use Rattle.messages.specs.Ready.{messagesOf, RulingReady, MessagesTold}
+use Rattle.messages.specs.declared.Ruling.{Ruling}
+use Rattle.judging.specs.Judgement.{bulkOutcome, faultsOfBulk, falls, messagesJudged, bulkLineOf, sectionOf, afterBulk}
+use Rattle.judging.specs.Ready.{bulkIn, HeaderReady, BulkSpace, BulkTold}
 
 -- ---- outcomes
 
@@ -53,17 +59,17 @@ module _ (register register' new : List ℕ) (accepted : ℕ) where
 
 -- ---- what the callees ask
 
-module _ (date : ℕ) (table sheet positions : List ℕ) (header : Header) (ready : HeaderReady table sheet positions header) where
-  module _ (sender : List ℕ) (read : sender ≡ part sheet (header .at + 36) 8) (row : Found)
-      (told : RowTold table (optionOf row) (rowOf date table (headOffice sender))) where
-    row-told : optionOf row ≡ senderRow date table (headerIn sheet header)
-    row-told = told .is ∙ ap (λ (s : List ℕ). rowOf date table (headOffice s)) (read ∙ sender-there sheet (header .at))
+module _ (terms : Terms) (sheet table positions : List ℕ) (header : Header) (ready : HeaderReady sheet table positions header) where
+  module _ (sender : List ℕ) (read : sender ≡ senderOf (headerIn sheet header)) (row : Found)
+      (told : RowTold table (optionOf row) (rowOf (terms .date) table (headOffice sender))) where
+    row-told : optionOf row ≡ senderRow terms table (headerIn sheet header)
+    row-told = told .is ∙ ap (λ (s : List ℕ). rowOf (terms .date) table (headOffice s)) read
 
-    pub bulk-asked : BulkAsked date table sheet header row
+    pub bulk-asked : BulkAsked terms sheet table header row
     bulk-asked = record { within = ready .within; read = ready .read; found = row-told }
 
-    pub bulk-ready : BulkReady date table sheet positions header row
-    bulk-ready =
+    pub ruling-ready : (fallen : Bool) → RulingReady terms sheet table positions (record { header = header; row = row; fallen = fallen })
+    ruling-ready fallen =
         record {
           headerWithin = ready .within;
           headerRead = ready .read;
@@ -71,28 +77,30 @@ module _ (date : ℕ) (table sheet positions : List ℕ) (header : Header) (read
           places = ready .places;
         }
 
-  pub bulk-parts : (sender identifier : List ℕ) → sender ≡ part sheet (header .at + 36) 8 → identifier ≡ part sheet (header .at + 1) 35 → Parts sender identifier
+  pub bulk-parts : (sender identifier : List ℕ) → sender ≡ senderOf (headerIn sheet header) → identifier ≡ bulkIdentifierOf (headerIn sheet header) → Parts sender identifier
   bulk-parts sender identifier es ei =
-      let h = ready .within in
       record {
-        senderWide = ap length es ∙ part-length sheet (header .at + 36) 8 (omega arith);
-        identifierWide = ap length ei ∙ part-length sheet (header .at + 1) 35 (omega arith);
+        senderWide = ap length es ∙ sender-width sheet (header .at) (ready .within);
+        identifierWide = ap length ei ∙ bulk-identifier-width sheet (header .at) (ready .within);
       }
 
 -- ---- the places in the report
 
-module _ (report : List ℕ) (n line to : ℕ) (space : BulkSpace report n line to) where
-  pub lent-within : (report' : List ℕ) → length report' ≡ length report → to + 4 ≤ length report'
+pub place-there : (from to : ℕ) → from ≡ to → to ≡ from + 0
+place-there from to e = omega arith
+
+module _ (report : List ℕ) (n : ℕ) (places : Places) (space : BulkSpace report n places) where
+  pub lent-within : (report' : List ℕ) → length report' ≡ length report → linesAt (places .section) ≤ length report'
   lent-within report' kept = let h = space .space in omega arith
 
-  pub lent-space : (report' : List ℕ) → length report' ≡ length report → messageLineWidth * n ≤ length (take (length report' - (to + 4)) (drop (to + 4) report'))
-  lent-space report' kept = let h = space .space in simp (length-take, length-drop) (omega arith)
+  pub lent-space : (report' : List ℕ) (from : ℕ) → length report' ≡ length report → from ≡ linesAt (places .section) → messageLineWidth * n ≤ length (take (length report' - from) (drop from report'))
+  lent-space report' from kept e = let h = space .space in simp (length-take, length-drop) (omega arith)
 
-  pub line-within : (report' report'' vs : List ℕ) → length report' ≡ length report → report'' ≡ sets report' (to + 4) vs → line + bulkLineWidth ≤ length report''
-  line-within report' report'' vs kept e =
+  pub line-within : (report' report'' : List ℕ) (from : ℕ) (vs : List ℕ) → length report' ≡ length report → report'' ≡ sets report' from vs → places .line + bulkLineWidth ≤ length report''
+  line-within report' report'' from vs kept e =
       let h = space .space in
       let b = space .before in
-      let wide : length report'' ≡ length report' = ap length e ∙ length-sets report' (to + 4) vs in
+      let wide : length report'' ≡ length report' = ap length e ∙ length-sets report' from vs in
       omega arith
 
 -- ---- what the calls come to
@@ -105,56 +113,56 @@ either-positions : (b : Bool) (x y : State) → y .positions ≡ x .positions �
 either-positions true x y e = refl
 either-positions false x y e = sym e
 
-module _ (date : ℕ) (table sheet : List ℕ) (header : Header) (at n : ℕ) (before : State) (report : List ℕ) (line to : ℕ) where
-  faults-are : (faults sum : ℕ) → sum ≡ sumOf (messagesIn sheet n at) → faults ≡ bulkFaults date table (before .register) (headerIn sheet header) n sum
-      → faults ≡ faultsOfBulk date table (bulkIn sheet header at n) before
-  faults-are faults sum es ef = ef ∙ (rw (es, records-length messageWidth sheet n at))
+module _ (terms : Terms) (table sheet : List ℕ) (header : Header) (section : Section) (before : State) (report : List ℕ) (places : Places) where
+  faults-are : (faults sum : ℕ) → sum ≡ sumOf (messagesOf sheet (header .kind) section) → faults ≡ bulkFaults terms table (before .register) (headerIn sheet header) (section .number) sum
+      → faults ≡ faultsOfBulk terms table (bulkIn sheet header section) before
+  faults-are faults sum es ef = ef ∙ (rw (es, records-length (messageWidth (header .kind)) sheet (section .number) (section .at)))
 
-  module _ (faults sum : ℕ) (es : sum ≡ sumOf (messagesIn sheet n at))
-      (ef : faults ≡ bulkFaults date table (before .register) (headerIn sheet header) n sum)
+  module _ (faults sum : ℕ) (es : sum ≡ sumOf (messagesOf sheet (header .kind) section))
+      (ef : faults ≡ bulkFaults terms table (before .register) (headerIn sheet header) (section .number) sum)
       (tally : Tally) (lent register₁ positions₁ lent₁ : List ℕ)
-      (told : MessagesTold date table (headerIn sheet header) (not (eqb faults 0)) (messagesIn sheet n at) before lent register₁ positions₁ lent₁ tally) where
-    judged : MessagesTold date table (headerIn sheet header) (falls date table (bulkIn sheet header at n) before) (messagesIn sheet n at) before lent register₁ positions₁ lent₁ tally
+      (told : MessagesTold terms table (headerIn sheet header) (not (eqb faults 0)) (messagesOf sheet (header .kind) section) before lent register₁ positions₁ lent₁ tally) where
+    judged : MessagesTold terms table (headerIn sheet header) (falls terms table (bulkIn sheet header section) before) (messagesOf sheet (header .kind) section) before lent register₁ positions₁ lent₁ tally
     judged = rw (faults-are faults sum es ef) at told
 
-    module _ (sender identifier : List ℕ) (er : sender ≡ part sheet (header .at + 36) 8) (ei : identifier ≡ part sheet (header .at + 1) 35)
-        (register₂ : List ℕ) (recorded : register₂ ≡ cond (eqb (totalsOf tally .acceptedNumber) 0) register₁ (add register₁ (entry sender identifier bulkTag))) where
-      register-is : register₂ ≡ afterBulk date table (bulkIn sheet header at n) before .register
+    module _ (sender identifier : List ℕ) (er : sender ≡ senderOf (headerIn sheet header)) (ei : identifier ≡ bulkIdentifierOf (headerIn sheet header))
+        (register₂ : List ℕ) (recorded : register₂ ≡ cond (eqb (totalsOf tally .acceptedNumber) 0) register₁ (add register₁ (key sender identifier bulkTag))) where
+      register-is : register₂ ≡ afterBulk terms table (bulkIn sheet header section) before .register
       unfolding afterBulk
       register-is =
           recorded
-          ∙ (rw (ap (λ (t : Totals). t .acceptedNumber) (judged .totals), judged .register, er ∙ sender-there sheet (header .at), ei ∙ bulk-identifier-there sheet (header .at))
-          (either-register (eqb (messagesJudged date table (bulkIn sheet header at n) before .totals .acceptedNumber) 0) _ _))
+          ∙ (rw (ap (λ (t : Totals). t .acceptedNumber) (judged .totals), judged .register, er, ei)
+          (either-register (eqb (messagesJudged terms table (bulkIn sheet header section) before .totals .acceptedNumber) 0) _ _))
 
-      positions-are : positions₁ ≡ afterBulk date table (bulkIn sheet header at n) before .positions
+      positions-are : positions₁ ≡ afterBulk terms table (bulkIn sheet header section) before .positions
       unfolding afterBulk
       positions-are =
           judged .positions
-          ∙ either-positions (eqb (messagesJudged date table (bulkIn sheet header at n) before .totals .acceptedNumber) 0)
-          (messagesJudged date table (bulkIn sheet header at n) before .after) _ refl
+          ∙ either-positions (eqb (messagesJudged terms table (bulkIn sheet header section) before .totals .acceptedNumber) 0)
+          (messagesJudged terms table (bulkIn sheet header section) before .after) _ refl
 
       module _ (report₁ report₂ report₃ : List ℕ) (outcome : ℕ)
-          (counted : report₁ ≡ sets report to (bytesOf 4 n))
-          (lines : report₂ ≡ sets report₁ (to + 4) (judgeMessages date table (headerIn sheet header) (not (eqb faults 0)) (messagesIn sheet n at) before .lines))
+          (counted : report₁ ≡ sets report (places .section) (bytesOf 4 (section .number)))
+          (lines : report₂ ≡ sets report₁ (linesAt (places .section)) (judgeMessages terms table (headerIn sheet header) (not (eqb faults 0)) (messagesOf sheet (header .kind) section) before .lines))
           (eo : outcome ≡ bulkOutcome (not (eqb faults 0)) (totalsOf tally))
-          (lined : report₃ ≡ sets report₂ line (bulkLine identifier outcome faults (totalsOf tally))) where
-        section-is : report₂ ≡ sets report to (sectionOf date table (bulkIn sheet header at n) before)
+          (lined : report₃ ≡ sets report₂ (places .line) (bulkLine identifier outcome faults (totalsOf tally))) where
+        section-is : report₂ ≡ sets report (places .section) (sectionOf terms table (bulkIn sheet header section) before)
         unfolding sectionOf
         section-is =
-            let after = messagesJudged date table (bulkIn sheet header at n) before .lines in
+            let after = messagesJudged terms table (bulkIn sheet header section) before .lines in
             (rw (faults-are faults sum es ef) at lines)
-            ∙ ap (λ (r : List ℕ). sets r (to + 4) after) counted
-            ∙ sets-then report to 4 (bytesOf 4 n) after (bytes-length 4 n)
-            ∙ ap (λ (k : ℕ). sets report to (bytesOf 4 k ++ after)) (sym (records-length messageWidth sheet n at))
+            ∙ ap (λ (r : List ℕ). sets r (linesAt (places .section)) after) counted
+            ∙ sets-then report (places .section) 4 (bytesOf 4 (section .number)) after (bytes-length 4 (section .number))
+            ∙ ap (λ (k : ℕ). sets report (places .section) (bytesOf 4 k ++ after)) (sym (records-length (messageWidth (header .kind)) sheet (section .number) (section .at)))
 
-        line-is : bulkLine identifier outcome faults (totalsOf tally) ≡ bulkLineOf date table (bulkIn sheet header at n) before
+        line-is : bulkLine identifier outcome faults (totalsOf tally) ≡ bulkLineOf terms table (bulkIn sheet header section) before
         unfolding bulkLineOf
         line-is =
             ap (λ (o : ℕ). bulkLine identifier o faults (totalsOf tally)) eo
             ∙ ap (λ (t : Totals). bulkLine identifier (bulkOutcome (not (eqb faults 0)) t) faults t) (judged .totals)
-            ∙ (rw (faults-are faults sum es ef, ei ∙ bulk-identifier-there sheet (header .at)))
+            ∙ (rw (faults-are faults sum es ef, ei))
 
-        pub bulk-told : BulkTold date table (bulkIn sheet header at n) before report line to register₂ positions₁ report₃
+        pub bulk-told : BulkTold terms table (bulkIn sheet header section) before report places register₂ positions₁ report₃
         bulk-told =
             record {
               register = register-is;

@@ -1,4 +1,3 @@
 pub mod Judgement
-pub mod Refusals
 pub mod Outcome
 pub mod Ready

@@ -8,7 +8,7 @@ use Rattle.wire.specs.Field.{bytesOf}
 use Rattle.sheet.specs.Sheet.{bulkCount, messageCount, bulksOf}
 use Rattle.report.specs.Line.{reportLength}
 use Rattle.judging.specs.Judgement.{JudgedBulks, judgeBulks}
-use Rattle.judging.specs.Refusals.{Call, numberOf, refusal}
+use Rattle.refusing.specs.Refusals.{Call, refusalNumber, refusal}
 use Rattle.judging.specs.declared.Answer.{Answer}
 use Rattle.judging.specs.declared.Answer.the-variants.{Refused, Judged}
 
@@ -26,7 +26,7 @@ turnedAway n call =
 
 -- the judgement of all the call's bulks
 abbrev pub judgement : Call → JudgedBulks
-judgement call = judgeBulks (call .date) (call .table) (bulksOf (call .sheet)) (record { register = call .register; positions = call .positions })
+judgement call = judgeBulks (call .terms) (call .table) (bulksOf (call .sheet)) (record { register = call .register; positions = call .positions })
 
 -- the bulk lines after their count, then the sections
 abbrev pub reportOf : ℕ → JudgedBulks → List ℕ
@@ -48,7 +48,7 @@ outcome call = cond (eqb (refusal call) 0) (judgedOf call (judgement call)) (tur
 -- ---- the number and the length for each case of the answer
 
 abbrev pub answerNumber : Answer → ℕ
-answerNumber (Refused r) = numberOf r
+answerNumber (Refused r) = refusalNumber r
 answerNumber (Judged n) = 0
 
 abbrev pub answerLength : Answer → ℕ

@@ -2,15 +2,20 @@
 ghost use mathlib.Core.Path.{_≡_};
 ghost use mathlib.Core.Bool.{cond};
 ghost use lib.Dec.{eqb};
-ghost use Rattle.register.specs.Register.{entry, bulkTag, add};
+ghost use Rattle.register.specs.Register.{key, bulkTag, add};
 ghost use Rattle.register.specs.Room.{Parts};
-ghost use Rattle.report.specs.Tally.{totalsOf};
+ghost use Rattle.tally.specs.Tally.{totalsOf};
+ghost use Rattle.messages.specs.Ready.{stateOf, SectionReady};
 ghost use Rattle.judging.specs.Judgement.{bulkOutcome};
-ghost use Rattle.judging.specs.Ready.{stateOf, bulkIn, HeaderReady, SectionReady, BulkSpace, BulkTold, BulksReady, BulksTold};
-use crate::messages;
-use report::Tally;
-use sheet::Cursor;
+ghost use Rattle.judging.specs.Ready.{bulkIn, HeaderReady, BulkSpace, BulkTold, BulksReady, BulksTold};
+use messages::Ruling;
+use refusing::Contents;
+use report::Places;
+use rules::Terms;
 use sheet::Header;
+use sheet::Section;
+use sheet::Walk;
+use tally::Tally;
 
 fn bulk_outcome(fallen: bool, tally: Tally) -> u8
     ensures { λ r. ⌜ r ≡ bulkOutcome fallen (totalsOf tally) ⌝ }
@@ -30,62 +35,54 @@ fn bulk_outcome(fallen: bool, tally: Tally) -> u8
 // A bulk with an accepted message is recorded.
 fn record_bulk(register: &mut [u8], sender: &[u8], identifier: &[u8], accepted: u32)
     requires { ⌜ Parts (now sender) (now identifier) ⌝ }
-    ensures { λ _. ⌜ now (register .exit) ≡ cond (eqb accepted 0) (now (register .entry)) (add (now (register .entry)) (entry (now (sender .entry)) (now (identifier .entry)) bulkTag)) ⌝ }
+    ensures { λ _. ⌜ now (register .exit) ≡ cond (eqb accepted 0) (now (register .entry)) (add (now (register .entry)) (key (now (sender .entry)) (now (identifier .entry)) bulkTag)) ⌝ }
 {
     if accepted != 0 {
-        messages::record_entry(register, sender, identifier, 2);
+        let made = register::key_of(sender, identifier, register::BULK);
+        register::add(register, &made);
     }
 }
 
-// Judges one bulk, whose n messages stand from place `at` of the sheet on. Its section goes to place `to` of the report, its line to
-// place `line`.
+// Judges one bulk, the messages of which are those of the section. Its line and its own section go to their places in the report.
 fn judge_bulk(
-    date: u32,
+    terms: Terms,
+    sheet: &[u8],
     table: &[u8],
     register: &mut [u8],
     positions: &mut [u8],
-    sheet: &[u8],
-    header: Header,
-    at: usize,
-    n: usize,
     report: &mut [u8],
-    line: usize,
-    to: usize,
+    header: Header,
+    section: Section,
+    places: Places,
 )
-    requires { ⌜ (HeaderReady (now table) (now sheet) (now positions) header) × (SectionReady (now sheet) at n) × (BulkSpace (now report) n line to) ⌝ }
-    ensures { λ _. ⌜ BulkTold date (now (table .entry)) (bulkIn (now (sheet .entry)) header at n) (stateOf (now (register .entry)) (now (positions .entry))) (now (report .entry)) line to (now (register .exit)) (now (positions .exit)) (now (report .exit)) ⌝ }
+    requires { ⌜ (HeaderReady (now sheet) (now table) (now positions) header) × (SectionReady (now sheet) (header .kind) section) × (BulkSpace (now report) (section .number) places) ⌝ }
+    ensures { λ _. ⌜ BulkTold terms (now (table .entry)) (bulkIn (now (sheet .entry)) header section) (stateOf (now (register .entry)) (now (positions .entry))) (now (report .entry)) places (now (register .exit)) (now (positions .exit)) (now (report .exit)) ⌝ }
 {
-    let place = header.at;
-    let sender = wire::text_at(sheet, place + 36, 8);
-    let identifier = wire::text_at(sheet, place + 1, 35);
-    let row = routing::head_office(date, table, sender);
-    let sum = messages::sum_of(sheet, at, n);
-    let faults = rules::bulk_faults(
-        date,
-        table,
-        register,
-        sheet,
-        header,
-        row,
-        n as u64,
-        wire::Halves(sum.0, sum.1),
-    );
+    let sender = header.sender(sheet);
+    let row = routing::head_office(terms.date, table, sender);
+    let sum = messages::sum_of(sheet, header.kind, section);
+    let n = section.number;
+    let faults = faults::bulk_faults(terms, sheet, table, register, header, row, n as u64, sum);
     let fallen = faults != 0;
-    wire::put_number(report, to, 4, n as u64);
-    let from = to + 4;
+    let at = places.section;
+    report::put_count(report, at, n);
+    let from = report::lines_at(at);
     let tally = messages::judge_messages(
-        date,
+        terms,
+        sheet,
         table,
         register,
         positions,
-        sheet,
-        header,
-        row,
-        fallen,
-        at,
-        n,
         &mut report[from..],
+        Ruling {
+            header,
+            row,
+            fallen,
+        },
+        section,
     );
+    let identifier = header.identifier(sheet);
+    let line = places.line;
     report::put_bulk_line(
         report,
         line,
@@ -99,47 +96,39 @@ fn judge_bulk(
 
 // Judges all bulks of a whole sheet. The report's count is written before.
 pub(crate) fn judge_bulks(
-    date: u32,
+    terms: Terms,
+    sheet: &[u8],
     table: &[u8],
     register: &mut [u8],
     positions: &mut [u8],
-    sheet: &[u8],
     report: &mut [u8],
-    bulks: usize,
-    messages: usize,
+    contents: Contents,
 )
-    requires { ⌜ BulksReady (now table) (now sheet) (now positions) (now report) bulks messages ⌝ }
-    ensures { λ _. ⌜ BulksTold date (now (table .entry)) (now (sheet .entry)) bulks (stateOf (now (register .entry)) (now (positions .entry))) (now (report .entry)) (now (register .exit)) (now (positions .exit)) (now (report .exit)) ⌝ }
+    requires { ⌜ BulksReady (now sheet) (now table) (now positions) (now report) contents ⌝ }
+    ensures { λ _. ⌜ BulksTold terms (now (table .entry)) (now (sheet .entry)) (contents .bulks) (stateOf (now (register .entry)) (now (positions .entry))) (now (report .entry)) (now (register .exit)) (now (positions .exit)) (now (report .exit)) ⌝ }
 {
-    let mut heads = Cursor { at: 4 };
-    let mut bodies = Cursor::after_headers(sheet, bulks);
-    let mut line = 4;
-    let mut to = report::first_section(report, bulks);
+    let bulks = contents.bulks;
+    let mut walk = Walk::start(sheet);
+    let mut places = Places::first(report, bulks);
     let mut k = 0;
     while k < bulks {
-        let header = heads.header(sheet);
-        let counted = bodies.count(sheet);
-        let n = counted.count as usize;
-        let first = counted.next;
-        let at = first.at;
+        let read = walk.bulk(sheet);
+        let header = read.header;
+        let section = read.section;
         judge_bulk(
-            date,
+            terms,
+            sheet,
             table,
             register,
             positions,
-            sheet,
-            header,
-            at,
-            n,
             report,
-            line,
-            to,
+            header,
+            section,
+            places,
         );
-        let next = header.next;
-        heads = next;
-        bodies = first.skip(sheet, n);
-        line = report::after_line(report, line);
-        to = report::after_section(report, to, n);
+        let next = read.next;
+        walk = next;
+        places = places.next(report, section.number);
         k += 1;
     }
 }

@@ -5,8 +5,9 @@ use mathlib.Core.List.{List}
 use Prim.Native.Nat.{ℕ, _+_}
 use native.Mathlib.Nat.{add-zero, zero-add}
 use native.Mathlib.Omega.{arith}
-use Rattle.report.specs.Tally.{Totals, nothing, withAccepted, withRejected}
-use Rattle.judging.specs.Judgement.{State, isAccepted, faultsOf, counted}
+use Rattle.tally.specs.Tally.{Totals, nothing, withAccepted, withRejected}
+use Rattle.messages.specs.Messages.{State, isAccepted, faultsOf, counted}
+use Rattle.rules.specs.declared.Terms.{Terms}
 
 abbrev pub plus : Totals → Totals → Totals
 plus s t =
@@ -33,7 +34,7 @@ either-plus true amount s t = totals-same (plus (withAccepted s amount) t) (plus
 either-plus false amount s t = totals-same (plus (withRejected s amount) t) (plus s (withRejected t amount)) refl refl (omega arith) (omega arith)
 
 -- a message may be counted with those before it or with those after it
-pub counted-plus : (date : ℕ) (table header : List ℕ) (fallen : Bool) (message : List ℕ) (before : State) (s t : Totals)
-    → plus (counted date table header fallen message before s) t ≡ plus s (counted date table header fallen message before t)
+pub counted-plus : (terms : Terms) (table header : List ℕ) (fallen : Bool) (message : List ℕ) (before : State) (s t : Totals)
+    → plus (counted terms table header fallen message before s) t ≡ plus s (counted terms table header fallen message before t)
 unfolding counted
-counted-plus date table header fallen message before s t = either-plus (isAccepted fallen (faultsOf date table header message before)) _ s t
+counted-plus terms table header fallen message before s t = either-plus (isAccepted fallen (faultsOf terms table header message before)) _ s t

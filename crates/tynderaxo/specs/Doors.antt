@@ -6,8 +6,9 @@ use Rattle.routing.specs.Lookup.{Routed}
 use Rattle.tynderaxo.specs.declared.TynderaxoAnswer.{TynderaxoAnswer}
 use Rattle.tynderaxo.specs.declared.TynderaxoRoute.{TynderaxoRoute}
 
-abbrev pub leftBy : TynderaxoAnswer → List ℕ → List ℕ → List ℕ → Outcome
-leftBy answer register positions report =
+-- an answer and the bytes that were left, as an outcome
+abbrev pub doorOutcome : TynderaxoAnswer → List ℕ → List ℕ → List ℕ → Outcome
+doorOutcome answer register positions report =
     record { number = answer .number; length = answer .length; register = register; positions = positions; report = report }
 
 abbrev pub routedBy : TynderaxoRoute → Routed

@@ -2,10 +2,12 @@
 // include/tynderaxo.h says: pointers that are valid for their lengths, and buffers that do not overlap.
 ghost use mathlib.Core.Path.{_≡_};
 ghost use Rattle.judging.specs.Outcome.{outcome};
-ghost use Rattle.judging.specs.Ready.{callOf};
+ghost use Rattle.refusing.specs.Checking.{callOf};
+ghost use Rattle.rules.specs.Terms.{dated};
 ghost use Rattle.routing.specs.Lookup.{lookup};
-ghost use Rattle.tynderaxo.specs.Doors.{leftBy, routedBy};
+ghost use Rattle.tynderaxo.specs.Doors.{doorOutcome, routedBy};
 use routing::Answer;
+use rules::Terms;
 
 // A refusal's number and the length 0, or 0 and the report's length.
 #[repr(C)]
@@ -32,9 +34,9 @@ pub extern "C" fn tynderaxo_judge(
     positions: &mut [u8],
     report: &mut [u8],
 ) -> TynderaxoAnswer
-    ensures { λ r. ⌜ leftBy r (now (register .exit)) (now (positions .exit)) (now (report .exit)) ≡ outcome (callOf date (now (sheet .entry)) (now (table .entry)) (now (register .entry)) (now (positions .entry)) (now (report .entry))) ⌝ }
+    ensures { λ r. ⌜ doorOutcome r (now (register .exit)) (now (positions .exit)) (now (report .exit)) ≡ outcome (callOf (dated date) (now (sheet .entry)) (now (table .entry)) (now (register .entry)) (now (positions .entry)) (now (report .entry))) ⌝ }
 {
-    let answer = judging::judge(date, sheet, table, register, positions, report);
+    let answer = judging::judge(Terms { date }, sheet, table, register, positions, report);
     TynderaxoAnswer {
         number: judging::number_of(answer),
         length: judging::length_of(answer) as u64,

@@ -1,7 +1,7 @@
--- `judging::messages::count_message` meets its contract. Assumes nothing.
+-- `messages::count_message` meets its contract. Assumes nothing.
 use borrow.Author.Needs.{needs}
-use Rattle.judging.proofs.messages.count_message.Statement.{statement}
-use Rattle.judging.proofs.messages.count_message.Tie as tie
+use Rattle.messages.proofs.count_message.Statement.{statement}
+use Rattle.messages.proofs.count_message.Tie as tie
 
 returns : tie.Need-returns
 returns c = cc

@@ -1,8 +1,8 @@
--- `judging::messages::message_outcome` meets its contract. Assumes nothing.
-use Rattle.judging.proofs.Amounts.{outcome-accepted, outcome-rejected}
+-- `messages::message_outcome` meets its contract. Assumes nothing.
+use Rattle.messages.proofs.Amounts.{outcome-accepted, outcome-rejected}
 use borrow.Author.Needs.{needs}
-use Rattle.judging.proofs.messages.message_outcome.Statement.{statement}
-use Rattle.judging.proofs.messages.message_outcome.Tie as tie
+use Rattle.messages.proofs.message_outcome.Statement.{statement}
+use Rattle.messages.proofs.message_outcome.Tie as tie
 
 returns-2 : tie.Need-returns-2
 returns-2 c = outcome-accepted (c .before .before .args .fallen) (c .before .before .args .faults) (c .before .if1 .left) (c .if2 .taken)

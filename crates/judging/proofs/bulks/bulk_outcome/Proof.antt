@@ -1,5 +1,5 @@
 -- `judging::bulks::bulk_outcome` meets its contract. Assumes nothing.
-use Rattle.report.specs.Tally.{totalsOf}
+use Rattle.tally.specs.Tally.{totalsOf}
 use Rattle.judging.proofs.Sections.{outcome-all, outcome-none, outcome-some}
 use borrow.Author.Needs.{needs}
 use Rattle.judging.proofs.bulks.bulk_outcome.Statement.{statement}

@@ -1,69 +1,85 @@
 -- `judging::bulks::judge_bulk` meets its contract. Assumes nothing.
+use mathlib.Core.Path.{refl}
 use mathlib.Core.Bool.{not}
-use Prim.Native.Nat.{_+_}
 use native.Mathlib.Omega.{arith}
 use lib.Dec.{eqb}
-use Rattle.report.specs.Tally.{centsOf}
-use Rattle.judging.specs.Judgement.{judgeMessages}
-use Rattle.judging.specs.Ready.{stateOf, headerIn, messagesIn}
-use Rattle.judging.proofs.Sections.{bulk-asked, bulk-ready, bulk-parts, lent-within, lent-space, line-within, bulk-told}
+use Rattle.wire.proofs.Stores.{middle-lent}
+use Rattle.sheet.specs.Reading.{headerIn}
+use Rattle.tally.specs.Tally.{centsOf}
+use Rattle.report.specs.Line.{linesAt}
+use Rattle.messages.specs.Messages.{judgeMessages}
+use Rattle.messages.specs.Ready.{stateOf, messagesOf}
+use Rattle.judging.proofs.Sections.{bulk-asked, ruling-ready, bulk-parts, place-there, lent-within, lent-space, line-within, bulk-told}
 use borrow.Author.Needs.{needs}
 use Rattle.judging.proofs.bulks.judge_bulk.Statement.{statement}
 use Rattle.judging.proofs.bulks.judge_bulk.Tie as tie
-use Rattle.wire.proofs.Stores.{middle-lent}
 
 bulk-faults-requires : tie.Need-bulk-faults-requires
 bulk-faults-requires c κs =
-    let a = c .before .before .before .before .before .before .before .before .before .before .args in
-    let asked = c .before .before .before .before .before .before .before .before .before .before .pre in
-    bulk-asked (a .date) (a .table .now) (a .sheet .now) (a .positions .now) (a .header) (asked .0) (c .before .before .before .before .text-at .result .now) (c .before .before .before .before .text-at .ensures) (c .before .before .head-office .result) (c .before .before .head-office .ensures)
+    let start = c .before .before .before .before .before .before .before .before .before in
+    let a = start .args in
+    bulk-asked (a .terms) (a .sheet .now) (a .table .now) (a .positions .now) (a .header) (start .pre .0) _ (c .before .before .before .sender .ensures) (c .before .before .head-office .result) (c .before .before .head-office .ensures)
 
-add-from : tie.Need-add-from
-add-from c =
-    let a = c .before .before .before .before .before .before .before .before .before .before .before .before .before .before .before .args in
-    let asked = c .before .before .before .before .before .before .before .before .before .before .before .before .before .before .before .pre in
-    let space = asked .2 .space in
-    omega (arith, c .before .before .before .before .before .before .before .before .before .before .before .before .before .before .before .good)
+lines-at-requires : tie.Need-lines-at-requires
+lines-at-requires c κs =
+    let start = c .before .before .before .before .before .before .before .before .before .before .before .before .before .before in
+    let a = start .args in
+    omega (arith, lent-within (a .report .now) (a .section .number) (a .places) (start .pre .2) (a .report .now) refl, start .good)
 
 sub-judge-messages : tie.Need-sub-judge-messages
 sub-judge-messages c =
-    let a = c .before .before .before .before .before .before .before .before .before .before .before .before .before .before .before .before .before .args in
-    let asked = c .before .before .before .before .before .before .before .before .before .before .before .before .before .before .before .before .before .pre in
-    lent-within (a .report .now) (a .n) (a .line) (a .to) (asked .2) (c .before .before .before .before .put-number .last .0) (c .before .before .before .before .put-number .kept .0)
-
-part-judge-messages-start : tie.Need-part-judge-messages-start
-part-judge-messages-start c =
-    let a = c .before .before .before .before .before .before .before .before .before .before .before .before .before .before .before .before .before .args in
-    let asked = c .before .before .before .before .before .before .before .before .before .before .before .before .before .before .before .before .before .pre in
-    lent-within (a .report .now) (a .n) (a .line) (a .to) (asked .2) (c .before .before .before .before .put-number .last .0) (c .before .before .before .before .put-number .kept .0)
+    let start = c .before .before .before .before .before .before .before .before .before .before .before .before .before .before .before .before .before in
+    let a = start .args in
+    let counted = c .before .before .before .before .before .put-count in
+    rw (c .before .before .lines-at .ensures) (lent-within (a .report .now) (a .section .number) (a .places) (start .pre .2) (counted .last .0) (counted .kept .0))
 
 judge-messages-requires : tie.Need-judge-messages-requires
 judge-messages-requires c κs =
-    let a = c .before .before .before .before .before .before .before .before .before .before .before .before .before .before .before .before .before .before .args in
-    let asked = c .before .before .before .before .before .before .before .before .before .before .before .before .before .before .before .before .before .before .pre in
-    (bulk-ready (a .date) (a .table .now) (a .sheet .now) (a .positions .now) (a .header) (asked .0) (c .before .before .before .before .before .before .before .before .before .before .before .before .text-at .result .now) (c .before .before .before .before .before .before .before .before .before .before .before .before .text-at .ensures) (c .before .before .before .before .before .before .before .before .before .before .head-office .result) (c .before .before .before .before .before .before .before .before .before .before .head-office .ensures), asked .1, lent-space (a .report .now) (a .n) (a .line) (a .to) (asked .2) (c .before .before .before .before .before .put-number .last .0) (c .before .before .before .before .before .put-number .kept .0))
+    let start = c .before .before .before .before .before .before .before .before .before .before .before .before .before .before .before .before .before .before in
+    let a = start .args in
+    let office = c .before .before .before .before .before .before .before .before .before .before .before .head-office in
+    let counted = c .before .before .before .before .before .before .put-count in (
+      ruling-ready (a .terms) (a .sheet .now) (a .table .now) (a .positions .now) (a .header) (start .pre .0) _ (c .before .before .before .before .before .before .before .before .before .before .before .before .sender .ensures) (office .result) (office .ensures) _,
+      start .pre .1,
+      lent-space (a .report .now) (a .section .number) (a .places) (start .pre .2) (counted .last .0) _ (counted .kept .0) (c .before .before .before .lines-at .ensures),
+    )
+
+identifier-requires : tie.Need-identifier-requires
+identifier-requires c κs = c .before .before .before .before .before .before .before .before .before .before .before .before .before .before .before .before .before .before .before .before .before .before .before .before .before .pre .0 .within
 
 put-bulk-line-requires : tie.Need-put-bulk-line-requires
 put-bulk-line-requires c κs =
-    let a = c .before .before .before .before .before .before .before .before .before .before .before .before .before .before .before .before .before .before .before .before .before .before .before .before .before .before .before .args in
-    let asked = c .before .before .before .before .before .before .before .before .before .before .before .before .before .before .before .before .before .before .before .before .before .before .before .before .before .before .before .pre in
-    (line-within (a .report .now) (a .n) (a .line) (a .to) (asked .2) (c .before .before .before .before .before .before .before .before .before .before .before .before .before .before .put-number .last .0) _ (judgeMessages (a .date) (a .table .now) (headerIn (a .sheet .now) (a .header)) (not (eqb (c .before .before .before .before .before .before .before .before .before .before .before .before .before .before .before .before .bulk-faults .result) 0)) (messagesIn (a .sheet .now) (a .n) (a .at)) (stateOf (a .register .now) (a .positions .now)) .lines) (c .before .before .before .before .before .before .before .before .before .before .before .before .before .before .put-number .kept .0) (middle-lent (c .before .before .before .before .before .before .before .before .before .before .before .before .before .before .put-number .last .0) (a .to + 4) 0 (a .to + 4) (judgeMessages (a .date) (a .table .now) (headerIn (a .sheet .now) (a .header)) (not (eqb (c .before .before .before .before .before .before .before .before .before .before .before .before .before .before .before .before .bulk-faults .result) 0)) (messagesIn (a .sheet .now) (a .n) (a .at)) (stateOf (a .register .now) (a .positions .now)) .lines) _ (omega arith) (c .before .before .before .before .before .before .before .before .judge-messages .ensures .lines)), bulk-parts (a .date) (a .table .now) (a .sheet .now) (a .positions .now) (a .header) (asked .0) _ _ (c .before .before .before .before .before .before .before .before .before .before .before .before .before .before .before .before .before .before .before .before .before .text-at .ensures) (c .before .before .before .before .before .before .before .before .before .before .before .before .before .before .before .before .before .before .before .before .text-at2 .ensures) .identifierWide)
+    let start = c .before .before .before .before .before .before .before .before .before .before .before .before .before .before .before .before .before .before .before .before .before .before .before .before .before .before .before .before in
+    let a = start .args in
+    let faults = c .before .before .before .before .before .before .before .before .before .before .before .before .before .before .before .before .before .before .bulk-faults in
+    let counted = c .before .before .before .before .before .before .before .before .before .before .before .before .before .before .before .before .put-count in
+    let lines = c .before .before .before .before .before .before .before .before .before .before .before .before .before .lines-at in
+    let judged = c .before .before .before .before .before .before .before .before .before .judge-messages in (
+      line-within (a .report .now) (a .section .number) (a .places) (start .pre .2) (counted .last .0) _ _ (judgeMessages (a .terms) (a .table .now) (headerIn (a .sheet .now) (a .header)) (not (eqb (faults .result) 0)) (messagesOf (a .sheet .now) (a .header .kind) (a .section)) (stateOf (a .register .now) (a .positions .now)) .lines) (counted .kept .0) (middle-lent (counted .last .0) (lines .result) 0 (linesAt (a .places .section)) (judgeMessages (a .terms) (a .table .now) (headerIn (a .sheet .now) (a .header)) (not (eqb (faults .result) 0)) (messagesOf (a .sheet .now) (a .header .kind) (a .section)) (stateOf (a .register .now) (a .positions .now)) .lines) _ (place-there _ _ (lines .ensures)) (judged .ensures .lines)),
+      bulk-parts (a .terms) (a .sheet .now) (a .table .now) (a .positions .now) (a .header) (start .pre .0) _ _ (c .before .before .before .before .before .before .before .before .before .before .before .before .before .before .before .before .before .before .before .before .before .before .sender .ensures) (c .before .before .identifier .ensures) .identifierWide,
+    )
 
 record-bulk-requires : tie.Need-record-bulk-requires
 record-bulk-requires c κs =
-    let a = c .before .before .before .before .before .before .before .before .before .before .before .before .before .before .before .before .before .before .before .before .before .before .before .before .before .before .before .before .before .before .before .args in
-    let asked = c .before .before .before .before .before .before .before .before .before .before .before .before .before .before .before .before .before .before .before .before .before .before .before .before .before .before .before .before .before .before .before .pre in
-    bulk-parts (a .date) (a .table .now) (a .sheet .now) (a .positions .now) (a .header) (asked .0) _ _ (c .before .before .before .before .before .before .before .before .before .before .before .before .before .before .before .before .before .before .before .before .before .before .before .before .before .text-at .ensures) (c .before .before .before .before .before .before .before .before .before .before .before .before .before .before .before .before .before .before .before .before .before .before .before .before .text-at2 .ensures)
+    let start = c .before .before .before .before .before .before .before .before .before .before .before .before .before .before .before .before .before .before .before .before .before .before .before .before .before .before .before .before .before .before .before .before in
+    let a = start .args in
+    bulk-parts (a .terms) (a .sheet .now) (a .table .now) (a .positions .now) (a .header) (start .pre .0) _ _ (c .before .before .before .before .before .before .before .before .before .before .before .before .before .before .before .before .before .before .before .before .before .before .before .before .before .before .sender .ensures) (c .before .before .before .before .before .before .identifier .ensures)
 
 returns : tie.Need-returns
 returns c =
-    let a = c .before .before .before .before .before .before .before .before .before .before .before .before .before .before .before .before .before .before .before .before .before .before .before .before .before .before .before .before .before .before .before .before .before .before .args in
-    let asked = c .before .before .before .before .before .before .before .before .before .before .before .before .before .before .before .before .before .before .before .before .before .before .before .before .before .before .before .before .before .before .before .before .before .before .pre in
-    bulk-told (a .date) (a .table .now) (a .sheet .now) (a .header) (a .at) (a .n) (stateOf (a .register .now) (a .positions .now)) (a .report .now) (a .line) (a .to)
-    _ (centsOf (c .before .before .before .before .before .before .before .before .before .before .before .before .before .before .before .before .before .before .before .before .before .before .before .before .before .sum-of .result)) (c .before .before .before .before .before .before .before .before .before .before .before .before .before .before .before .before .before .before .before .before .before .before .before .before .before .sum-of .ensures) (c .before .before .before .before .before .before .before .before .before .before .before .before .before .before .before .before .before .before .before .before .before .before .before .bulk-faults .ensures)
-    (c .before .before .before .before .before .before .before .before .before .before .before .before .before .before .before .judge-messages .result) _ _ _ _ (c .before .before .before .before .before .before .before .before .before .before .before .before .before .before .before .judge-messages .ensures)
-    _ _ (c .before .before .before .before .before .before .before .before .before .before .before .before .before .before .before .before .before .before .before .before .before .before .before .before .before .before .before .before .text-at .ensures) (c .before .before .before .before .before .before .before .before .before .before .before .before .before .before .before .before .before .before .before .before .before .before .before .before .before .before .before .text-at2 .ensures) _ (c .before .before .record-bulk .ensures)
-    _ _ _ _ (c .before .before .before .before .before .before .before .before .before .before .before .before .before .before .before .before .before .before .before .before .before .put-number .ensures) (middle-lent (c .before .before .before .before .before .before .before .before .before .before .before .before .before .before .before .before .before .before .before .before .before .put-number .last .0) (a .to + 4) 0 (a .to + 4) (judgeMessages (a .date) (a .table .now) (headerIn (a .sheet .now) (a .header)) (not (eqb (c .before .before .before .before .before .before .before .before .before .before .before .before .before .before .before .before .before .before .before .before .before .before .before .bulk-faults .result) 0)) (messagesIn (a .sheet .now) (a .n) (a .at)) (stateOf (a .register .now) (a .positions .now)) .lines) _ (omega arith) (c .before .before .before .before .before .before .before .before .before .before .before .before .before .before .before .judge-messages .ensures .lines)) (c .before .before .before .before .before .before .before .bulk-outcome .ensures) (c .before .before .before .before .before .before .put-bulk-line .ensures)
+    let start = c .before .before .before .before .before .before .before .before .before .before .before .before .before .before .before .before .before .before .before .before .before .before .before .before .before .before .before .before .before .before .before .before .before .before .before in
+    let a = start .args in
+    let sum = c .before .before .before .before .before .before .before .before .before .before .before .before .before .before .before .before .before .before .before .before .before .before .before .before .before .before .before .sum-of in
+    let faults = c .before .before .before .before .before .before .before .before .before .before .before .before .before .before .before .before .before .before .before .before .before .before .before .before .before .bulk-faults in
+    let counted = c .before .before .before .before .before .before .before .before .before .before .before .before .before .before .before .before .before .before .before .before .before .before .before .put-count in
+    let lines = c .before .before .before .before .before .before .before .before .before .before .before .before .before .before .before .before .before .before .before .before .lines-at in
+    let judged = c .before .before .before .before .before .before .before .before .before .before .before .before .before .before .before .before .judge-messages in
+    bulk-told (a .terms) (a .table .now) (a .sheet .now) (a .header) (a .section) (stateOf (a .register .now) (a .positions .now)) (a .report .now) (a .places)
+    _ (centsOf (sum .result)) (sum .ensures) (faults .ensures) (judged .result) _ _ _ _ (judged .ensures)
+    _ _ (c .before .before .before .before .before .before .before .before .before .before .before .before .before .before .before .before .before .before .before .before .before .before .before .before .before .before .before .before .before .sender .ensures) (c .before .before .before .before .before .before .before .before .before .identifier .ensures) _ (c .before .before .record-bulk .ensures)
+    _ _ _ _ (counted .ensures) (middle-lent (counted .last .0) (lines .result) 0 (linesAt (a .places .section)) (judgeMessages (a .terms) (a .table .now) (headerIn (a .sheet .now) (a .header)) (not (eqb (faults .result) 0)) (messagesOf (a .sheet .now) (a .header .kind) (a .section)) (stateOf (a .register .now) (a .positions .now)) .lines) _ (place-there _ _ (lines .ensures)) (judged .ensures .lines)) (c .before .before .before .before .before .before .before .bulk-outcome .ensures) (c .before .before .before .before .before .before .put-bulk-line .ensures)
 
 pub judge-bulk-spec : {M : Type 1} → statement M
-judge-bulk-spec = tie.close (tie.spec (λ c. search needs) (λ c κs. search needs) (λ c. search needs) (λ c κs. search needs) (λ c κs. search needs) (λ c κs. search needs) bulk-faults-requires (λ c κs. search needs) add-from sub-judge-messages part-judge-messages-start (λ c. search needs) judge-messages-requires (λ c κs. search needs) put-bulk-line-requires record-bulk-requires (λ c. search needs) (λ c. search needs) (λ c. search needs) returns)
+judge-bulk-spec =
+    tie.close
+    (tie.spec (λ c κs. search needs) (λ c κs. search needs) (λ c κs. search needs) bulk-faults-requires (λ c κs. search needs) lines-at-requires sub-judge-messages sub-judge-messages (λ c. search needs) judge-messages-requires identifier-requires (λ c κs. search needs) put-bulk-line-requires record-bulk-requires (λ c. search needs) (λ c. search needs) (λ c. search needs) returns)

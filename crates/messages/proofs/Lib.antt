@@ -1,0 +1,7 @@
+mod Amounts
+pub mod Demands
+mod Loops
+mod Sums
+mod Verdicts
+mod Walks
+pub mod Widths
