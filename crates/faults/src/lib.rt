@@ -62,15 +62,22 @@ pub fn bulk_faults(
 {
     let sender = header.sender(sheet);
     let identifier = header.identifier(sheet);
-    let m = masks::flag(0, MARKS_WRONG, rules::marks_wrong(header.marks));
-    let m = masks::flag(m, NO_PARTICIPANT, rules::no_participant(table, row));
-    let m = masks::flag(m, DATE_WRONG, rules::date_wrong(terms, header.date));
-    let m = masks::flag(m, BULK_BADLY_FORMED, wording::badly_formed(identifier));
-    let known = rules::repeated(register, sender, identifier, register::BULK);
-    let m = masks::flag(m, BULK_REPEATED, known);
-    let m = masks::flag(m, EMPTY, rules::empty(number));
-    let m = masks::flag(m, NUMBER_WRONG, rules::number_wrong(header.number, number));
-    masks::flag(m, SUM_WRONG, rules::sum_wrong(header.sum, sum))
+    let marks_wrong = rules::marks_wrong(header.marks);
+    let no_participant = rules::no_participant(table, row);
+    let date_wrong = rules::date_wrong(terms, header.date);
+    let badly_formed = wording::badly_formed(identifier);
+    let repeated = rules::repeated(register, sender, identifier, register::BULK);
+    let empty = rules::empty(number);
+    let number_wrong = rules::number_wrong(header.number, number);
+    let sum_wrong = rules::sum_wrong(header.sum, sum);
+    let m = masks::flag(0, MARKS_WRONG, marks_wrong);
+    let m = masks::flag(m, NO_PARTICIPANT, no_participant);
+    let m = masks::flag(m, DATE_WRONG, date_wrong);
+    let m = masks::flag(m, BULK_BADLY_FORMED, badly_formed);
+    let m = masks::flag(m, BULK_REPEATED, repeated);
+    let m = masks::flag(m, EMPTY, empty);
+    let m = masks::flag(m, NUMBER_WRONG, number_wrong);
+    masks::flag(m, SUM_WRONG, sum_wrong)
 }
 
 // The faults of a message of that bulk.
@@ -89,19 +96,25 @@ pub fn message_faults(
     let kind = header.kind;
     let sender = header.sender(sheet);
     let identifier = message.identifier(sheet);
+    let receiver = message.receiver(sheet);
     let reason = message.reason(sheet);
     let name = message.name(sheet);
-    let m = masks::flag(0, BADLY_FORMED, wording::badly_formed(identifier));
-    let known = rules::repeated(register, sender, identifier, register::MESSAGE);
-    let m = masks::flag(m, REPEATED, known);
-    let unwritten = rules::receiver_badly_formed(message.receiver(sheet));
-    let m = masks::flag(m, RECEIVER_BADLY_FORMED, unwritten);
-    let m = masks::flag(m, UNREACHABLE, rules::unreachable(table, row));
-    let m = masks::flag(m, AMOUNT_WRONG, rules::amount_wrong(message.amount));
-    let tells = rules::tells_original(kind, message.original, reason, name);
-    let m = masks::flag(m, TELLS_ORIGINAL, tells);
-    let m = masks::flag(m, REASON_UNKNOWN, rules::reason_unknown(kind, reason));
-    let m = masks::flag(m, NAME_UNKNOWN, rules::name_unknown(kind, name));
-    let differs = rules::amount_differs(kind, message.amount, message.original);
-    masks::flag(m, AMOUNT_DIFFERS, differs)
+    let badly_formed = wording::badly_formed(identifier);
+    let repeated = rules::repeated(register, sender, identifier, register::MESSAGE);
+    let receiver_badly_formed = rules::receiver_badly_formed(receiver);
+    let unreachable = rules::unreachable(table, row);
+    let amount_wrong = rules::amount_wrong(message.amount);
+    let tells_original = rules::tells_original(kind, message.original, reason, name);
+    let reason_unknown = rules::reason_unknown(kind, reason);
+    let name_unknown = rules::name_unknown(kind, name);
+    let amount_differs = rules::amount_differs(kind, message.amount, message.original);
+    let m = masks::flag(0, BADLY_FORMED, badly_formed);
+    let m = masks::flag(m, REPEATED, repeated);
+    let m = masks::flag(m, RECEIVER_BADLY_FORMED, receiver_badly_formed);
+    let m = masks::flag(m, UNREACHABLE, unreachable);
+    let m = masks::flag(m, AMOUNT_WRONG, amount_wrong);
+    let m = masks::flag(m, TELLS_ORIGINAL, tells_original);
+    let m = masks::flag(m, REASON_UNKNOWN, reason_unknown);
+    let m = masks::flag(m, NAME_UNKNOWN, name_unknown);
+    masks::flag(m, AMOUNT_DIFFERS, amount_differs)
 }

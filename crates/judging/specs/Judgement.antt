@@ -20,9 +20,19 @@ pub record JudgedBulks : Type 0 where
   pub sections : List ℕ
   pub after : State
 
--- 2 with a bulk fault; without one, 0 for all accepted, 1 for some, 2 for none
+abbrev pub bulkAccepted : ℕ
+bulkAccepted = 0
+
+abbrev pub bulkPartial : ℕ
+bulkPartial = 1
+
+abbrev pub bulkRejected : ℕ
+bulkRejected = 2
+
+-- rejected with a bulk fault; without one, accepted if all its messages are, partial if some are, rejected if none is
 abbrev pub bulkOutcome : Bool → Totals → ℕ
-bulkOutcome fallen t = cond fallen 2 (cond (eqb (t .rejectedNumber) 0) 0 (cond (eqb (t .acceptedNumber) 0) 2 1))
+bulkOutcome fallen t =
+    cond fallen bulkRejected (cond (eqb (t .rejectedNumber) 0) bulkAccepted (cond (eqb (t .acceptedNumber) 0) bulkRejected bulkPartial))
 
 -- ---- by the call's terms, with a table
 

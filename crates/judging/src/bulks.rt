@@ -17,19 +17,26 @@ use sheet::Section;
 use sheet::Walk;
 use tally::Tally;
 
+// The outcomes of a bulk.
+const ACCEPTED: u8 = 0;
+
+const PARTIAL: u8 = 1;
+
+const REJECTED: u8 = 2;
+
 fn bulk_outcome(fallen: bool, tally: Tally) -> u8
     ensures { λ r. ⌜ r ≡ bulkOutcome fallen (totalsOf tally) ⌝ }
 {
     if fallen {
-        return 2;
+        return REJECTED;
     }
     if tally.rejected.number.0 == 0 {
-        return 0;
+        return ACCEPTED;
     }
     if tally.accepted.number.0 == 0 {
-        return 2;
+        return REJECTED;
     }
-    1
+    PARTIAL
 }
 
 // A bulk with an accepted message is recorded.

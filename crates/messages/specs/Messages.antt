@@ -30,9 +30,18 @@ pub record Judged : Type 0 where
 abbrev pub isAccepted : Bool → ℕ → Bool
 isAccepted fallen faults = not fallen && eqb faults 0
 
--- 0 accepted, 1 rejected, 2 fell with its bulk
+abbrev pub messageAccepted : ℕ
+messageAccepted = 0
+
+abbrev pub messageRejected : ℕ
+messageRejected = 1
+
+-- with its bulk
+abbrev pub messageFell : ℕ
+messageFell = 2
+
 abbrev pub messageOutcome : Bool → ℕ → ℕ
-messageOutcome fallen faults = cond fallen 2 (cond (eqb faults 0) 0 1)
+messageOutcome fallen faults = cond fallen messageFell (cond (eqb faults 0) messageAccepted messageRejected)
 
 -- a payment from the sender's row to the receiver's, where both were found
 abbrev pub moved : List ℕ → Option ℕ → Option ℕ → ℕ → List ℕ

@@ -18,6 +18,13 @@ use sheet::Section;
 use tally::Cents;
 use tally::Tally;
 
+// The outcomes of a message.
+const ACCEPTED: u8 = 0;
+
+const REJECTED: u8 = 1;
+
+const FELL: u8 = 2;
+
 // What is known of a bulk when its messages are judged: its header, its sender's row, and whether it fell.
 pub struct Ruling {
     pub header: Header,
@@ -63,11 +70,11 @@ fn message_outcome(fallen: bool, faults: u16) -> u8
     ensures { λ r. ⌜ r ≡ messageOutcome fallen faults ⌝ }
 {
     if fallen {
-        2
+        FELL
     } else if faults == 0 {
-        0
+        ACCEPTED
     } else {
-        1
+        REJECTED
     }
 }
 

@@ -15,45 +15,51 @@ use Rattle.faults.proofs.bulk_faults.Tie as tie
 
 repeated-requires : tie.Need-repeated-requires
 repeated-requires c κs =
-    let read = c .before .before .before .before .before .before .before .before in
+    let read = c .before .before .before .before in
     let start = read .before .before .before .before .before in
     bulk-parts (start .args .terms) (start .args .sheet .now) (start .args .table .now) (start .args .header) (start .args .row) _ _ (start .pre) (read .before .sender .ensures) (read .identifier .ensures)
 
 returns : tie.Need-returns
 unfolding bulkFaults
 returns c =
-    let at7 = c .before .before in
-    let at6 = at7 .before .before in
-    let at5 = at6 .before .before in
-    let at4 = at5 .before .before in
-    let at3 = at4 .before .before in
-    let at2 = at3 .before .before in
-    let at1 = at2 .before .before in
-    let read = at1 .before .before in
+    -- after each bit was set, from the last to the first
+    let at6 = c .before in
+    let at5 = at6 .before in
+    let at4 = at5 .before in
+    let at3 = at4 .before in
+    let at2 = at3 .before in
+    let at1 = at2 .before in
+    let at0 = at1 .before in
+    -- after each fact was asked
+    let f7 = at0 .before in
+    let f6 = f7 .before in
+    let f5 = f6 .before in
+    let f4 = f5 .before in
+    let f3 = f4 .before in
+    let f2 = f3 .before in
+    let f1 = f2 .before in
+    let f0 = f1 .before in
+    let read = f0 .before in
     let start = read .before .before .before .before .before in
     let a = start .args in
     let asked = start .pre in
     let sender = read .before .sender .ensures in
     let identifier = read .identifier .ensures in
-    let m0 = flag-next 0 [] _ _ _ no-facts (at1 .flag .ensures .0) (at1 .before .marks-wrong .ensures ∙ ap marksWrong (asked .read .marks)) in
-    let m1 = flag-next _ _ _ _ _ m0 (at2 .flag2 .ensures .0) (at2 .before .no-participant .ensures ∙ ap (noParticipant (a .table .now)) (asked .found)) in
-    let m2 = flag-next _ _ _ _ _ m1 (at3 .flag3 .ensures .0) (at3 .before .date-wrong .ensures ∙ ap (dateWrong (a .terms)) (asked .read .date)) in
-    let m3 = flag-next _ _ _ _ _ m2 (at4 .flag4 .ensures .0) (at4 .before .badly-formed .ensures ∙ ap badlyFormed identifier) in
-    let m4 = flag-next _ _ _ _ _ m3 (at5 .flag5 .ensures .0) (at5 .before .repeated .ensures ∙ (λ i. repeated (a .register .now) (sender i) (identifier i) bulkTag)) in
-    let m5 = flag-next _ _ _ _ _ m4 (at6 .flag6 .ensures .0) (at6 .before .empty .ensures) in
-    let m6 = flag-next _ _ _ _ _ m5 (at7 .flag7 .ensures .0) (at7 .before .number-wrong .ensures ∙ (λ i. numberWrong (asked .read .number i) (a .number))) in
-    flag-next _ _ _ _ _ m6 (c .flag8 .ensures .0) (c .before .sum-wrong .ensures ∙ (λ i. sumWrong (asked .read .sum i) (centsOf (a .sum))))
+    let m0 = flag-next 0 [] _ _ _ no-facts (at0 .flag .ensures .0) (f0 .marks-wrong .ensures ∙ ap marksWrong (asked .read .marks)) in
+    let m1 = flag-next _ _ _ _ _ m0 (at1 .flag2 .ensures .0) (f1 .no-participant .ensures ∙ ap (noParticipant (a .table .now)) (asked .found)) in
+    let m2 = flag-next _ _ _ _ _ m1 (at2 .flag3 .ensures .0) (f2 .date-wrong .ensures ∙ ap (dateWrong (a .terms)) (asked .read .date)) in
+    let m3 = flag-next _ _ _ _ _ m2 (at3 .flag4 .ensures .0) (f3 .badly-formed .ensures ∙ ap badlyFormed identifier) in
+    let m4 = flag-next _ _ _ _ _ m3 (at4 .flag5 .ensures .0) (f4 .repeated .ensures ∙ (λ i. repeated (a .register .now) (sender i) (identifier i) bulkTag)) in
+    let m5 = flag-next _ _ _ _ _ m4 (at5 .flag6 .ensures .0) (f5 .empty .ensures) in
+    let m6 = flag-next _ _ _ _ _ m5 (at6 .flag7 .ensures .0) (f6 .number-wrong .ensures ∙ (λ i. numberWrong (asked .read .number i) (a .number))) in
+    flag-next _ _ _ _ _ m6 (c .flag8 .ensures .0) (f7 .sum-wrong .ensures ∙ (λ i. sumWrong (asked .read .sum i) (centsOf (a .sum))))
 
 pub bulk-faults-spec : {M : Type 1} → statement M
 bulk-faults-spec =
     tie.close
     (tie.spec (λ c κs. search needs) (λ c κs. search needs)
-    (λ c κs. search needs) (λ c κs. search needs)
-    (λ c κs. search needs) (λ c κs. search needs)
-    (λ c κs. search needs) (λ c κs. search needs)
-    (λ c κs. search needs) (λ c κs. search needs)
-    repeated-requires (λ c κs. search needs)
-    (λ c κs. search needs) (λ c κs. search needs)
-    (λ c κs. search needs) (λ c κs. search needs)
-    (λ c κs. search needs) (λ c κs. search needs)
+    (λ c κs. search needs) (λ c κs. search needs) (λ c κs. search needs) (λ c κs. search needs)
+    repeated-requires (λ c κs. search needs) (λ c κs. search needs) (λ c κs. search needs)
+    (λ c κs. search needs) (λ c κs. search needs) (λ c κs. search needs) (λ c κs. search needs)
+    (λ c κs. search needs) (λ c κs. search needs) (λ c κs. search needs) (λ c κs. search needs)
     returns)
