@@ -14,7 +14,7 @@ fn equal_identifiers() {
     files::put_padded(&mut sheet, files::IDENTIFIER + files::MESSAGE, b"T1");
     say::text(b"T1 twice");
     crate::judge(&sheet);
-    wire::put_number(&mut sheet, files::MARKS, 1, 7);
+    writing::put_number(&mut sheet, files::MARKS, 1, 7);
     say::text(b"T1 twice, marks 7");
     crate::judge(&sheet);
 }
@@ -31,7 +31,7 @@ fn repeated_bulk() {
     let mut sheet = files::one_payment();
     let mut register = files::register();
     files::put_entry(&mut register, 0, b"AAAALV22", b"D1", 2);
-    wire::put_number(&mut sheet, files::SUM, 8, 101);
+    writing::put_number(&mut sheet, files::SUM, 8, 101);
     say::text(b"D1 sent before, sum wrong");
     crate::judge_over(files::TODAY, &sheet, &mut register);
 }
@@ -40,7 +40,7 @@ fn reason() {
     let mut sheet = files::one_return();
     say::text(b"return for AC04");
     crate::judge(&sheet);
-    wire::put_text(&mut sheet, files::REASON, b"    ");
+    writing::put_text(&mut sheet, files::REASON, b"    ");
     say::text(b"return for a blank reason");
     crate::judge(&sheet);
 }
@@ -51,11 +51,11 @@ fn whole_bulk() {
     let mut register = files::register();
     files::put_padded(&mut sheet, files::BULK_IDENTIFIER, b"/D");
     files::put_entry(&mut register, 0, b"CCCCLV22", b"/D", 2);
-    wire::put_text(&mut sheet, files::SENDER, b"CCCCLV22");
-    wire::put_number(&mut sheet, files::NUMBER, 8, 1);
-    wire::put_number(&mut sheet, files::SUM, 8, 1);
-    wire::put_number(&mut sheet, files::VALUE_DATE, 4, 20260616);
-    wire::put_number(&mut sheet, files::MARKS, 1, 7);
+    writing::put_text(&mut sheet, files::SENDER, b"CCCCLV22");
+    writing::put_number(&mut sheet, files::NUMBER, 8, 1);
+    writing::put_number(&mut sheet, files::SUM, 8, 1);
+    writing::put_number(&mut sheet, files::VALUE_DATE, 4, 20260616);
+    writing::put_number(&mut sheet, files::MARKS, 1, 7);
     say::text(b"all faults of a bulk");
     crate::judge_over(files::TODAY, &sheet, &mut register);
 }
@@ -65,10 +65,10 @@ fn whole_message(sheet: &mut [u8]) {
     let mut register = files::register();
     files::put_padded(sheet, files::IDENTIFIER, b"/T");
     files::put_entry(&mut register, 0, b"AAAALV22", b"/T", 1);
-    wire::put_text(sheet, files::RECEIVER, b"bbbbLV22XXX");
-    wire::put_number(sheet, files::AMOUNT, 8, 0);
-    wire::put_number(sheet, files::ORIGINAL, 8, 1);
-    wire::put_number(sheet, files::SUM, 8, 0);
+    writing::put_text(sheet, files::RECEIVER, b"bbbbLV22XXX");
+    writing::put_number(sheet, files::AMOUNT, 8, 0);
+    writing::put_number(sheet, files::ORIGINAL, 8, 1);
+    writing::put_number(sheet, files::SUM, 8, 0);
     crate::judge_over(files::TODAY, sheet, &mut register);
 }
 
@@ -77,8 +77,8 @@ fn whole_messages() {
     say::text(b"all faults of a payment");
     whole_message(&mut sheet);
     let mut sheet = files::one_return();
-    wire::put_text(&mut sheet, files::REASON, b"XX99");
-    wire::put_text(&mut sheet, files::NAME, b"pacs.008.001.09");
+    writing::put_text(&mut sheet, files::REASON, b"XX99");
+    writing::put_text(&mut sheet, files::NAME, b"pacs.008.001.09");
     say::text(b"all faults of a return");
     whole_message(&mut sheet);
 }

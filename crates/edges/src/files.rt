@@ -67,23 +67,23 @@ pub(crate) fn large() -> [u8; LARGE]
 // An identifier, filled up to its 35 bytes.
 pub(crate) fn put_padded(sheet: &mut [u8], at: usize, words: &[u8]) {
     let blank = [b' '; IDENTIFIER_WIDTH];
-    wire::put_text(sheet, at, &blank);
-    wire::put_text(sheet, at, words);
+    writing::put_text(sheet, at, &blank);
+    writing::put_text(sheet, at, words);
 }
 
 fn put_row(table: &mut [u8], at: usize, bic: &[u8], kind: u64)
     requires { ⌜ at < 65536 ⌝ }
 {
-    wire::put_text(table, at, bic);
-    wire::put_number(table, at + 11, 4, 20000101);
-    wire::put_number(table, at + 15, 4, 22991231);
-    wire::put_number(table, at + 19, 1, kind);
+    writing::put_text(table, at, bic);
+    writing::put_number(table, at + 11, 4, 20000101);
+    writing::put_number(table, at + 15, 4, 22991231);
+    writing::put_number(table, at + 19, 1, kind);
 }
 
 // The sender, a receiver, and a branch of the receiver that is not reachable; all three rows count on every date.
 pub(crate) fn table() -> [u8; TABLE] {
     let mut table = [0u8; TABLE];
-    wire::put_number(&mut table, 0, 4, 3);
+    writing::put_number(&mut table, 0, 4, 3);
     put_row(&mut table, 4, b"AAAALV22XXX", 5);
     put_row(&mut table, 24, b"BBBBLV22XXX", 5);
     put_row(&mut table, 44, b"BBBBLV22KUL", 0);
@@ -100,23 +100,23 @@ pub(crate) fn put_entry(register: &mut [u8], k: usize, sender: &[u8], identifier
     requires { ⌜ k < 8 ⌝ }
 {
     let at = 4 + ENTRY * k;
-    wire::put_text(register, at, sender);
+    writing::put_text(register, at, sender);
     put_padded(register, at + 8, identifier);
-    wire::put_number(register, at + 43, 1, tag);
-    wire::put_number(register, 0, 4, k as u64 + 1);
+    writing::put_number(register, at + 43, 1, tag);
+    writing::put_number(register, 0, 4, k as u64 + 1);
 }
 
 // The header of a bulk of so many messages over 100 cents each.
 fn put_header(sheet: &mut [u8], at: usize, identifier: &[u8], number: u64)
     requires { ⌜ (at < 16777216) × (number < 65536) ⌝ }
 {
-    wire::put_number(sheet, at, 1, 1);
+    writing::put_number(sheet, at, 1, 1);
     put_padded(sheet, at + 1, identifier);
-    wire::put_text(sheet, at + 36, b"AAAALV22");
-    wire::put_number(sheet, at + 44, 8, number);
-    wire::put_number(sheet, at + 52, 8, 100 * number);
-    wire::put_number(sheet, at + 60, 4, TODAY as u64);
-    wire::put_number(sheet, at + 64, 1, 3);
+    writing::put_text(sheet, at + 36, b"AAAALV22");
+    writing::put_number(sheet, at + 44, 8, number);
+    writing::put_number(sheet, at + 52, 8, 100 * number);
+    writing::put_number(sheet, at + 60, 4, TODAY as u64);
+    writing::put_number(sheet, at + 64, 1, 3);
 }
 
 // A payment over 100 cents.
@@ -124,19 +124,19 @@ fn put_message(sheet: &mut [u8], at: usize, identifier: &[u8])
     requires { ⌜ at < 16777216 ⌝ }
 {
     put_padded(sheet, at, identifier);
-    wire::put_text(sheet, at + 35, b"BBBBLV22XXX");
-    wire::put_number(sheet, at + 46, 8, 100);
-    wire::put_number(sheet, at + 54, 8, 0);
-    wire::put_text(sheet, at + 62, b"                   ");
+    writing::put_text(sheet, at + 35, b"BBBBLV22XXX");
+    writing::put_number(sheet, at + 46, 8, 100);
+    writing::put_number(sheet, at + 54, 8, 0);
+    writing::put_text(sheet, at + 62, b"                   ");
 }
 
 // What stands before the messages of a file whose one bulk is D1.
 fn put_front(sheet: &mut [u8], number: u64)
     requires { ⌜ number < 65536 ⌝ }
 {
-    wire::put_number(sheet, 0, 4, 1);
+    writing::put_number(sheet, 0, 4, 1);
     put_header(sheet, 4, b"D1", number);
-    wire::put_number(sheet, COUNT, 4, number);
+    writing::put_number(sheet, COUNT, 4, number);
 }
 
 // D1 without messages.
@@ -166,10 +166,10 @@ pub(crate) fn two_payments() -> [u8; TWO_MESSAGES] {
 // D1 with the return T1 of a whole payment.
 pub(crate) fn one_return() -> [u8; ONE_MESSAGE] {
     let mut sheet = one_payment();
-    wire::put_number(&mut sheet, KIND, 1, 3);
-    wire::put_number(&mut sheet, ORIGINAL, 8, 100);
-    wire::put_text(&mut sheet, REASON, b"AC04");
-    wire::put_text(&mut sheet, NAME, b"pacs.008.001.08");
+    writing::put_number(&mut sheet, KIND, 1, 3);
+    writing::put_number(&mut sheet, ORIGINAL, 8, 100);
+    writing::put_text(&mut sheet, REASON, b"AC04");
+    writing::put_text(&mut sheet, NAME, b"pacs.008.001.08");
     sheet
 }
 
@@ -190,14 +190,14 @@ fn put_bulk(sheet: &mut [u8], n: usize, i: usize)
     let length = io::decimal(i as u64, &mut digits);
     put_header(sheet, 4 + HEADER * i, &digits[..length], 1);
     let section = 4 + HEADER * n + (4 + MESSAGE) * i;
-    wire::put_number(sheet, section, 4, 1);
+    writing::put_number(sheet, section, 4, 1);
     put_numbered(sheet, section + 4, i);
 }
 
 pub(crate) fn put_bulks(sheet: &mut [u8], n: usize)
     requires { ⌜ n ≤ 1000 ⌝ }
 {
-    wire::put_number(sheet, 0, 4, n as u64);
+    writing::put_number(sheet, 0, 4, n as u64);
     let mut i = 0;
     while i < n {
         put_bulk(sheet, n, i);

@@ -29,7 +29,7 @@ pub(crate) fn judge(sheet: &[u8]) {
 
 fn date(date: u32) {
     let mut sheet = files::one_payment();
-    wire::put_number(&mut sheet, files::VALUE_DATE, 4, date as u64);
+    writing::put_number(&mut sheet, files::VALUE_DATE, 4, date as u64);
     say::text(b"date ");
     say::number(date as u64);
     if calendar::is_date(date) {
@@ -51,8 +51,8 @@ fn dates() {
 
 fn amount(cents: u64) {
     let mut sheet = files::one_payment();
-    wire::put_number(&mut sheet, files::AMOUNT, 8, cents);
-    wire::put_number(&mut sheet, files::SUM, 8, cents);
+    writing::put_number(&mut sheet, files::AMOUNT, 8, cents);
+    writing::put_number(&mut sheet, files::SUM, 8, cents);
     say::text(b"amount ");
     say::number(cents);
     judge(&sheet);
@@ -94,7 +94,7 @@ fn identifiers() {
 fn judge_long(sheet: &[u8], register: &mut [u8], report: &mut [u8]) {
     let table = files::table();
     let mut positions = [0u8; 24];
-    wire::put_number(register, 0, 4, 0);
+    writing::put_number(register, 0, 4, 0);
     let answer = judging::judge(
         files::TODAY,
         sheet,

@@ -22,7 +22,7 @@ fn lookup(date: u32, bic: &[u8]) {
 fn branch(bic: &[u8]) {
     let mut sheet = files::one_payment();
     lookup(files::TODAY, bic);
-    wire::put_text(&mut sheet, files::RECEIVER, bic);
+    writing::put_text(&mut sheet, files::RECEIVER, bic);
     say::text(b"payment to ");
     say::text(bic);
     crate::judge(&sheet);
@@ -39,14 +39,14 @@ fn branches() {
 // The two amounts come to 2^64 + 1, of which eight bytes would keep the 1.
 fn sum_that_wraps() {
     let mut sheet = files::two_payments();
-    wire::put_number(&mut sheet, files::AMOUNT, 8, 18446744073709551615);
-    wire::put_number(&mut sheet, files::AMOUNT + files::MESSAGE, 8, 2);
-    wire::put_number(&mut sheet, files::SUM, 8, 1);
+    writing::put_number(&mut sheet, files::AMOUNT, 8, 18446744073709551615);
+    writing::put_number(&mut sheet, files::AMOUNT + files::MESSAGE, 8, 2);
+    writing::put_number(&mut sheet, files::SUM, 8, 1);
     say::text(b"2^64 - 1 and 2, stated sum 1");
     crate::judge(&sheet);
     let mut sheet = files::one_payment();
-    wire::put_number(&mut sheet, files::AMOUNT, 8, 18446744073709551615);
-    wire::put_number(&mut sheet, files::SUM, 8, 18446744073709551615);
+    writing::put_number(&mut sheet, files::AMOUNT, 8, 18446744073709551615);
+    writing::put_number(&mut sheet, files::SUM, 8, 18446744073709551615);
     say::text(b"2^64 - 1 alone, stated as it is");
     crate::judge(&sheet);
 }
@@ -55,10 +55,10 @@ fn sum_that_wraps() {
 fn fallen_then_corrected() {
     let mut sheet = files::one_payment();
     let mut register = files::register();
-    wire::put_number(&mut sheet, files::SUM, 8, 101);
+    writing::put_number(&mut sheet, files::SUM, 8, 101);
     say::text(b"sum wrong");
     crate::judge_over(files::TODAY, &sheet, &mut register);
-    wire::put_number(&mut sheet, files::SUM, 8, 100);
+    writing::put_number(&mut sheet, files::SUM, 8, 100);
     say::text(b"then corrected");
     crate::judge_over(files::TODAY, &sheet, &mut register);
     say::text(b"then sent once more");
@@ -69,8 +69,8 @@ fn fallen_then_corrected() {
 fn rejected_then_corrected() {
     let mut sheet = files::two_payments();
     let mut register = files::register();
-    wire::put_number(&mut sheet, files::AMOUNT + files::MESSAGE, 8, 0);
-    wire::put_number(&mut sheet, files::SUM, 8, 100);
+    writing::put_number(&mut sheet, files::AMOUNT + files::MESSAGE, 8, 0);
+    writing::put_number(&mut sheet, files::SUM, 8, 100);
     say::text(b"T2 over nothing");
     crate::judge_over(files::TODAY, &sheet, &mut register);
     let mut sheet = files::one_payment();

@@ -84,7 +84,7 @@ fn gain(positions: &mut [u8], i: usize, cents: u64)
 {
     let held = wire::u64_at(positions, POSITION_WIDTH * i);
     let more = std::num::wrapping_add_u64(held, cents);
-    wire::put_number(positions, POSITION_WIDTH * i, POSITION_WIDTH, more);
+    writing::put_number(positions, POSITION_WIDTH * i, POSITION_WIDTH, more);
 }
 
 // Row i loses so many cents.
@@ -94,7 +94,7 @@ fn lose(positions: &mut [u8], i: usize, cents: u64)
 {
     let held = wire::u64_at(positions, POSITION_WIDTH * i);
     let less = std::num::wrapping_sub_u64(held, cents);
-    wire::put_number(positions, POSITION_WIDTH * i, POSITION_WIDTH, less);
+    writing::put_number(positions, POSITION_WIDTH * i, POSITION_WIDTH, less);
 }
 
 // Row `from` pays row `to`, which may be the same, so many cents.

@@ -16,7 +16,7 @@ pub(crate) fn place_after(at: usize, n: usize, end: usize) -> usize
 pub(crate) fn put(out: &mut [u8], at: usize, s: &[u8]) -> usize
     ensures { λ r. ⌜ Printed (now (out .entry)) (now (out .exit)) at r (now (s .entry)) ⌝ }
 {
-    wire::put_text(out, at, s);
+    writing::put_text(out, at, s);
     place_after(at, s.len(), out.len())
 }
 

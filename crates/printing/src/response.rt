@@ -57,7 +57,7 @@ pub(crate) fn put_judgement(
     let mut register = space();
     let mut positions = space();
     let mut report = space();
-    wire::put_text(&mut register, 0, given);
+    writing::put_text(&mut register, 0, given);
     let taken = given.len();
     let places = sections::POSITION * routing::rows(table);
     put_answer(

@@ -63,8 +63,8 @@ pub fn key_of(sender: &[u8], identifier: &[u8], tag: u8) -> [u8; KEY_WIDTH]
     ensures { λ r. ⌜ r ≡ key (now (sender .entry)) (now (identifier .entry)) tag ⌝ }
 {
     let mut made = [0u8; KEY_WIDTH];
-    wire::put_text(&mut made, 0, sender);
-    wire::put_text(&mut made, SENDER_WIDTH, identifier);
+    writing::put_text(&mut made, 0, sender);
+    writing::put_text(&mut made, SENDER_WIDTH, identifier);
     made[TAG_PLACE] = tag;
     made
 }
@@ -78,7 +78,7 @@ pub fn stands(register: &[u8], key: &[u8]) -> bool
     while k < n {
         let at = USED_WIDTH + ENTRY_WIDTH * k;
         let end = at + KEY_WIDTH;
-        if wire::same(&register[at..end], key) {
+        if texts::same(&register[at..end], key) {
             return true;
         }
         k += 1;
@@ -91,6 +91,6 @@ pub fn add(register: &mut [u8], key: &[u8])
     ensures { λ _. ⌜ now (register .exit) ≡ add (now (register .entry)) (now (key .entry)) ⌝ }
 {
     let k = used(register) as usize;
-    wire::put_text(register, USED_WIDTH + ENTRY_WIDTH * k, key);
-    wire::put_number(register, 0, USED_WIDTH, k as u64 + 1);
+    writing::put_text(register, USED_WIDTH + ENTRY_WIDTH * k, key);
+    writing::put_number(register, 0, USED_WIDTH, k as u64 + 1);
 }

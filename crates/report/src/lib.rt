@@ -121,7 +121,7 @@ pub fn message_line(j: usize) -> usize
 pub fn put_count(out: &mut [u8], at: usize, n: usize)
     ensures { λ _. ⌜ now (out .exit) ≡ sets (now (out .entry)) at (bytesOf countWidth n) ⌝ }
 {
-    wire::put_number(out, at, COUNT_WIDTH, n as u64);
+    writing::put_number(out, at, COUNT_WIDTH, n as u64);
 }
 
 // Writes what both kinds of line begin with from place at on.
@@ -129,9 +129,9 @@ fn put_head(out: &mut [u8], at: usize, identifier: &[u8], outcome: u8, faults: u
     requires { ⌜ (at + lineHeadWidth ≤ length (now out)) × (length (now identifier) ≡ identifierWidth) ⌝ }
     ensures { λ _. ⌜ now (out .exit) ≡ sets (now (out .entry)) at (lineHead (now (identifier .entry)) outcome faults) ⌝ }
 {
-    wire::put_text(out, at, identifier);
-    wire::put_number(out, at + OUTCOME_PLACE, OUTCOME_WIDTH, outcome as u64);
-    wire::put_number(out, at + FAULTS_PLACE, FAULTS_WIDTH, faults as u64);
+    writing::put_text(out, at, identifier);
+    writing::put_number(out, at + OUTCOME_PLACE, OUTCOME_WIDTH, outcome as u64);
+    writing::put_number(out, at + FAULTS_PLACE, FAULTS_WIDTH, faults as u64);
 }
 
 // Writes a message line from place at on.
@@ -155,25 +155,25 @@ pub fn put_bulk_line(
     ensures { λ _. ⌜ now (out .exit) ≡ sets (now (out .entry)) at (bulkLine (now (identifier .entry)) outcome faults (totalsOf tally)) ⌝ }
 {
     put_head(out, at, identifier, outcome, faults);
-    wire::put_number(
+    writing::put_number(
         out,
         at + ACCEPTED_NUMBER_PLACE,
         NUMBER_WIDTH,
         tally.accepted.number.0 as u64,
     );
-    wire::put_number(
+    writing::put_number(
         out,
         at + ACCEPTED_CENTS_PLACE,
         ACCEPTED_CENTS_WIDTH,
         tally.accepted.cents.1,
     );
-    wire::put_number(
+    writing::put_number(
         out,
         at + REJECTED_NUMBER_PLACE,
         NUMBER_WIDTH,
         tally.rejected.number.0 as u64,
     );
-    wire::put_halves(
+    writing::put_halves(
         out,
         at + REJECTED_CENTS_PLACE,
         wire::Halves(tally.rejected.cents.0, tally.rejected.cents.1),

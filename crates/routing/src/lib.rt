@@ -128,7 +128,7 @@ fn bears(date: u32, table: &[u8], bic: &[u8], i: usize) -> bool
 {
     let at = COUNT_WIDTH + ROW_WIDTH * i;
     let end = at + BIC_WIDTH;
-    if wire::same(&table[at..end], bic) {
+    if texts::same(&table[at..end], bic) {
         counts(date, table, i)
     } else {
         false
@@ -157,7 +157,7 @@ pub fn head_office(date: u32, table: &[u8], bic: &[u8]) -> Found
     let mut head = [b'X'; BIC_WIDTH];
     let front = wire::text_at(bic, 0, INSTITUTION_WIDTH);
     let n = front.len() + BRANCH_WIDTH;
-    wire::put_text(&mut head, 0, front);
+    writing::put_text(&mut head, 0, front);
     row_of(date, table, &head[..n])
 }
 
@@ -169,7 +169,7 @@ pub fn route(date: u32, table: &[u8], bic: &[u8]) -> Found
     match own {
         Found::Row(i) => Found::Row(i),
         Found::Nothing => {
-            if wire::same(wire::text_at(bic, INSTITUTION_WIDTH, BRANCH_WIDTH), b"XXX") {
+            if texts::same(wire::text_at(bic, INSTITUTION_WIDTH, BRANCH_WIDTH), b"XXX") {
                 Found::Nothing
             } else {
                 head_office(date, table, bic)

@@ -87,7 +87,7 @@ pub fn sum_wrong(stated: u64, sum: Cents) -> bool
 pub fn receiver_badly_formed(receiver: &[u8]) -> bool
     ensures { λ r. ⌜ r ≡ receiverBadlyFormed (now (receiver .entry)) ⌝ }
 {
-    !wording::bic_formed(receiver)
+    !codes::bic_formed(receiver)
 }
 
 // Whether the receiver's row is missing or not reachable.
@@ -109,7 +109,7 @@ pub fn tells_original(kind: u8, original: u64, reason: &[u8], name: &[u8]) -> bo
     ensures { λ r. ⌜ r ≡ tellsOriginal kind original (now (reason .entry)) (now (name .entry)) ⌝ }
 {
     if kind == sheet::PAYMENT {
-        (original != 0) | !wording::blank(reason) | !wording::blank(name)
+        (original != 0) | !codes::blank(reason) | !codes::blank(name)
     } else {
         false
     }
@@ -120,7 +120,7 @@ pub fn reason_unknown(kind: u8, reason: &[u8]) -> bool
     ensures { λ r. ⌜ r ≡ reasonUnknown kind (now (reason .entry)) ⌝ }
 {
     if kind == sheet::RETURN {
-        !wording::known_reason(reason)
+        !codes::known_reason(reason)
     } else {
         false
     }
@@ -131,7 +131,7 @@ pub fn name_unknown(kind: u8, name: &[u8]) -> bool
     ensures { λ r. ⌜ r ≡ nameUnknown kind (now (name .entry)) ⌝ }
 {
     if kind == sheet::RETURN {
-        !wording::known_name(name)
+        !codes::known_name(name)
     } else {
         false
     }

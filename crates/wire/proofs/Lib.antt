@@ -3,4 +3,3 @@ pub mod Scans
 pub mod Sides
 pub mod Stores
 pub mod Texts
-pub mod Words

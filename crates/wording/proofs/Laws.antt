@@ -1,20 +1,18 @@
 -- The laws that the proofs of the tests share, and those that crates above may cite. Assumes nothing.
 use mathlib.Core.Path.{_≡_, refl, sym, ap, _∙_}
-use mathlib.Core.Bool.{Bool, true, false, cond, not, _&&_, _||_, false≢true, and-true, and-false, and-assoc, or-false}
+use mathlib.Core.Bool.{Bool, true, false, cond, not, _&&_, _||_, false≢true, and-true, and-false, and-assoc}
 use mathlib.Core.List.{List, [], _∷_, _++_}
-use Prim.Native.Nat.{ℕ, suc, _+_, _-_, _*_, _≤_, _<_}
+use Prim.Native.Nat.{ℕ, suc, _+_, _-_, _≤_, _<_}
 use native.Mathlib.Nat.{sub-zero}
 use native.Mathlib.Numerals.{add-one}
 use native.Mathlib.Omega.{arith}
-use lib.Dec.{leb, eqb, eqb·suc-zero, lit≤}
-use lib.ListN.{length, getD, take, drop, length-take, drop-of-length-le, List·getD-eq-default}
-use lib.Seq.{take-suc, drop-cons}
-use borrow.Author.Tests.{le-leb, lt-leb, ne-eqb}
-use Rattle.wire.specs.Field.{part, same}
+use lib.Dec.{leb, ltb, eqb, eqb·suc-zero, lit≤}
+use lib.ListN.{length, getD, take, length-take, List·getD-eq-default}
+use lib.Seq.{take-suc}
+use borrow.Author.Tests.{le-leb, lt-leb, ne-eqb, eqb-true, eqb-false, ltb-true, ltb-false}
 use Rattle.wire.specs.Places.{everyFrom}
-use Rattle.wire.proofs.Texts.{same-equal}
 use Rattle.wire.proofs.Scans.{every-holds, every-fails, every-more, every-ends}
-use Rattle.wording.specs.Wording.{upper, digit, upperOrDigit, among, allowed, kept, space, isSpace, isSlash, has, every, apart, mostCharacters, formed, oneOf, reasons}
+use Rattle.wording.specs.Wording.{among, allowed, kept, space, isSpace, isSlash, has, every, apart, mostCharacters, spelled, formed}
 
 -- ---- characters
 
@@ -102,6 +100,9 @@ apart-next : (t : List ℕ) (i : ℕ) → i < length t
 unfolding everyFrom
 apart-next t i h = let left : length t - i ≡ suc (length t - (i + 1)) = omega arith in rw (left, add-one i)
 
+pub run-first : (t : List ℕ) → runLeft t false 0 ≡ spelled t
+run-first t = rw (sub-zero, and-true)
+
 module _ (t : List ℕ) (after : Bool) (i : ℕ) where
   pub run-ends : length t ≤ i → true ≡ runLeft t after i
   run-ends h =
@@ -118,18 +119,27 @@ module _ (t : List ℕ) (after : Bool) (i : ℕ) where
     pub run-more : has allowed t i ≡ true → (after && has isSlash t i) ≡ false → runLeft t (has isSlash t i) (i + 1) ≡ runLeft t after i
     run-more here single = rw (single, every-more (has allowed t) (length t) i h here, apart-next t i h, and-true, and-assoc)
 
--- the tests before the loop
+-- what the test of the size leaves
+pub size-fits : (n : ℕ) → (eqb n 0 || ltb mostCharacters n) ≡ false → (1 ≤ n) × (n ≤ mostCharacters)
+size-fits n e = by-size (eqb n 0) refl e
+  where
+    by-size : (z : Bool) → eqb n 0 ≡ z → (z || ltb mostCharacters n) ≡ false → (1 ≤ n) × (n ≤ mostCharacters)
+    by-size true q h = absurd (false≢true (sym h))
+    by-size false q h = let some = eqb-false n 0 q in (omega arith, ltb-false mostCharacters n h)
+
+-- the tests of both ends
 abbrev pub edges : List ℕ → Bool
 edges t = has isSpace t 0 || has isSlash t 0 || has isSlash t (length t - 1)
 
 module _ (t : List ℕ) where
-  pub formed-empty : length t ≡ 0 → false ≡ formed t
+  -- how many there may be
+  pub formed-size : (eqb (length t) 0 || ltb mostCharacters (length t)) ≡ true → false ≡ formed t
   unfolding formed
-  formed-empty e = sym (rw e)
-
-  pub formed-long : mostCharacters < length t → false ≡ formed t
-  unfolding formed
-  formed-long h = sym (rw (lt-leb (length t) mostCharacters h, and-false))
+  formed-size e = sym (rw (by-size (eqb (length t) 0) refl e))
+    where
+      by-size : (z : Bool) → eqb (length t) 0 ≡ z → (z || ltb mostCharacters (length t)) ≡ true → (leb 1 (length t) && leb (length t) mostCharacters) ≡ false
+      by-size true q h = rw (lt-leb 1 (length t) (omega (arith, eqb-true (length t) 0 q)))
+      by-size false q h = rw (lt-leb (length t) mostCharacters (ltb-true mostCharacters (length t) h), and-false)
 
   pub formed-edge : edges t ≡ true → false ≡ formed t
   unfolding formed
@@ -143,59 +153,15 @@ module _ (t : List ℕ) where
       by-test a false false true b e = rw (and-false (a && true && true))
       by-test a false false false b e = absurd (false≢true e)
 
-  pub formed-run : 1 ≤ length t → length t ≤ mostCharacters → edges t ≡ false → runLeft t false 0 ≡ formed t
+  pub formed-rest : edges t ≡ false → 1 ≤ length t → length t ≤ mostCharacters → spelled t ≡ formed t
   unfolding formed
-  formed-run some few e =
+  formed-rest e some few =
       rw (sub-zero, le-leb 1 (length t) some, le-leb (length t) mostCharacters few)
       (by-test (everyFrom (has allowed t) (length t) 0)
       (has isSpace t 0) (has isSlash t 0) (has isSlash t (length t - 1)) (everyFrom (apart t) (length t) 0) e)
     where
-      by-test : (a s l z b : Bool) → (s || l || z) ≡ false → (a && true && b) ≡ (a && not s && not l && not z && b)
+      by-test : (a s l z b : Bool) → (s || l || z) ≡ false → (a && b) ≡ (a && not s && not l && not z && b)
       by-test a true l z b e = absurd (false≢true (sym e))
       by-test a false true z b e = absurd (false≢true (sym e))
       by-test a false false true b e = absurd (false≢true (sym e))
       by-test a false false false b e = simp and-true
-
--- ---- BICs
-
-pub letter : (digits : Bool) (c : ℕ) → (upper c || digits && digit c) ≡ cond digits upperOrDigit upper c
-letter true c = refl
-letter false c = or-false (upper c)
-
--- ---- one of several texts
-
--- a loop at text i of ts, with what the comparison there said
-module _ (s : List ℕ) (ts : List (List ℕ)) (i : ℕ) where
-  one-of-next : i < length ts → oneOf s (drop i ts) ≡ (same s (getD ts i []) || oneOf s (drop (i + 1) ts))
-  unfolding oneOf
-  one-of-next h = rw (add-one i, drop-cons ts i [] h)
-
-  pub one-of-ends : length ts ≤ i → false ≡ oneOf s (drop i ts)
-  unfolding oneOf
-  one-of-ends h = sym (rw (drop-of-length-le ts h))
-
-  module _ (h : i < length ts) (told : Bool) (tested : told ≡ same s (getD ts i [])) where
-    pub one-of-here : told ≡ true → true ≡ oneOf s (drop i ts)
-    one-of-here e = sym (one-of-next h ∙ (rw (← tested, e)))
-
-    pub one-of-more : told ≡ false → oneOf s (drop (i + 1) ts) ≡ oneOf s (drop i ts)
-    one-of-more e = sym (one-of-next h ∙ (rw (← tested, e)))
-
--- the reasons one after another, four characters each
-abbrev pub joined : List (List ℕ) → List ℕ
-joined [] = []
-joined (t ∷ ts) = t ++ joined ts
-
-reasonIs : ℕ → Bool
-reasonIs i = same (part (joined reasons) (4 * i) 4) (getD reasons i [])
-
-everyReason : everyFrom reasonIs (length reasons) 0 ≡ true
-unfolding everyFrom reasonIs same
-everyReason = refl
-
-pub reason-at : (s code : List ℕ) (told : Bool) (i : ℕ) → i < length reasons → code ≡ part (joined reasons) (4 * i) 4 → told ≡ same s code
-    → told ≡ same s (getD reasons i [])
-unfolding reasonIs
-reason-at s code told i h cut tested =
-    let here : reasonIs i ≡ true = every-holds reasonIs (length reasons) 0 i everyReason (omega arith) (omega arith) in
-    tested ∙ ap (same s) (cut ∙ same-equal (part (joined reasons) (4 * i) 4) (getD reasons i []) here)

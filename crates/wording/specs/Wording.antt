@@ -67,6 +67,10 @@ mostCharacters = 35
 abbrev pub apart : List ℕ → ℕ → Bool
 apart t i = not (has isSlash t i && has isSlash t (suc i))
 
+-- each of the set, and no two slashes together
+abbrev pub spelled : List ℕ → Bool
+spelled t = every allowed t 0 (length t) && everyFrom (apart t) (length t) 0
+
 -- of what is left: how many, of which set; the first no space; no slash first, none last, no two together
 unfoldable pub formed : List ℕ → Bool
 formed t =

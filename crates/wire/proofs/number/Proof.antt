@@ -1,7 +1,7 @@
 -- `wire::number` meets its contract: after i bytes, v is the number that they write, modulo 2 ^ 64.
 -- Assumes nothing.
 use borrow.Author.Needs.{needs}
-use mathlib.Core.Path.{_≡_, _∙_, ap}
+use mathlib.Core.Path.{_≡_, refl, _∙_, ap}
 use mathlib.Core.List.{List}
 use Prim.Native.Nat.{ℕ, _≤_, _-_, _%_, _^_}
 use native.Mathlib.Omega.{arith}
@@ -22,15 +22,18 @@ loop-holds : tie.Need-loop-holds Inv-loop μ-loop
 unfolding numberFrom
 loop-holds c = search needs
 
+cast-v : tie.Need-cast-v Inv-loop μ-loop
+cast-v c = omega (arith, c .shared-slice-known .given (c .before .before .loop .i))
+
 add-v : tie.Need-add-v Inv-loop μ-loop
-add-v c = omega (arith, c .wide .ensures, c .before .shared-slice-known2 .given (c .before .before .before .loop .i))
+add-v c = omega (arith, c .shared-slice-known .given (c .before .before .loop .i))
 
 loop-again : tie.Need-loop-again Inv-loop μ-loop
 loop-again c =
-    (omega arith, word-step _ _ _ _ (λ i. c .before .shared-slice-known2 .given i .fits) (c .before .before .loop-test .taken) (c .before .before .before .loop .inv .1) (c .wide .ensures))
+    (omega arith, word-step _ _ _ _ (λ i. c .shared-slice-known .given i .fits) (c .before .loop-test .taken) (c .before .before .loop .inv .1) refl)
 
 returns : tie.Need-returns Inv-loop μ-loop
 returns c = c .before .loop .inv .1 ∙ ap (λ (l : List ℕ). numberOf l % 2 ^ 64) (take-all _ _ (c .loop-test .left))
 
 pub number-spec : {M : Type 1} → statement M
-number-spec = tie.close (tie.spec Inv-loop μ-loop loop-holds (λ c. search needs) (λ c. search needs) (λ c κs. search needs) add-v (λ c. search needs) (λ c. search needs) loop-again returns)
+number-spec = tie.close (tie.spec Inv-loop μ-loop loop-holds (λ c. search needs) (λ c. search needs) cast-v add-v (λ c. search needs) (λ c. search needs) loop-again returns)

@@ -15,7 +15,7 @@ slice-aggregate-formed c =
 
 returns : tie.Need-returns
 unfolding badlyFormed
-returns c = cc
+returns c = rw (c .formed .ensures, c .before .before .kept .ensures)
 
 pub badly-formed-spec : {M : Type 1} → statement M
 badly-formed-spec = tie.close (tie.spec (λ c κs. search needs) slice-aggregate-formed (λ c κs. search needs) returns)

@@ -1,0 +1,14 @@
+-- `texts::eight_at` meets its contract: a word of two halves. Assumes nothing.
+use borrow.Author.Needs.{needs}
+use native.Mathlib.Omega.{arith}
+use Rattle.texts.proofs.Words.{low-joined}
+use Rattle.texts.proofs.eight_at.Statement.{statement}
+use Rattle.texts.proofs.eight_at.Tie as tie
+
+returns : tie.Need-returns
+returns c =
+    let args = c .before .before .before .args in
+    low-joined (args .s .now) (args .at) 4 4 _ _ (omega arith) (c .before .four-at .ensures .0) (c .four-at2 .ensures .0)
+
+pub eight-at-spec : {M : Type 1} → statement M
+eight-at-spec = tie.close (tie.spec (λ c κs. search needs) (λ c. search needs) (λ c κs. search needs) (λ c. search needs) (λ c. search needs) returns)
