@@ -62,6 +62,15 @@ fn no_part_is_longer_than_16384() {
 }
 
 #[test]
+fn three_full_parts_and_one_byte_more() {
+    let full = [0; 16_384];
+    let longest = input(DATE, [&full, &full, &full]);
+    assert_eq!(longest.len(), 49_168);
+    assert_eq!(prints(&longest), "X 2\n");
+    assert_eq!(prints(&[longest, vec![0]].concat()), "X 99\n");
+}
+
+#[test]
 fn identifiers_as_shown() {
     let show = |bytes: &[u8]| {
         let mut field = [b' '; 35];

@@ -76,6 +76,11 @@ impl Draft {
                 let part = part(&mut words, &PARTS)?;
                 self.edits.push((self.line, part, Edit::Add(words.hex()?)));
             }
+            "zeros" => {
+                let part = part(&mut words, &PARTS)?;
+                let bytes = words.number::<u16>("bytes")?.into();
+                self.edits.push((self.line, part, Edit::Add(vec![0; bytes])));
+            }
             "length" => {
                 let part = part(&mut words, &PARTS[..INPUT])?;
                 once(&mut self.lengths[part], words.number("length")?)?;

@@ -1,5 +1,6 @@
 // What is printed of a case: a title, then what came of it.
 ghost use Prim.Native.Nat.{_<_};
+use crate::words;
 
 const BULK_LINE: usize = 64;
 
@@ -10,24 +11,47 @@ const OUTCOME: usize = 35;
 
 const FAULTS: usize = 36;
 
+// A longer report is told by its length.
+const MOST_SHOWN: usize = 1000;
+
 pub(crate) fn text(words: &[u8]) {
     io::write_all(libc::STDOUT_FILENO, words);
 }
 
-pub(crate) fn number(v: u64) {
+fn number(v: u64) {
     io::print_decimal(libc::STDOUT_FILENO, v);
+}
+
+// A number, and the line's end.
+fn last(v: u64) {
+    number(v);
+    text(b"\n");
+}
+
+pub(crate) fn title(words: &[u8]) {
+    text(words);
+    text(b": ");
+}
+
+// A date is told by its own line.
+pub(crate) fn date(line: &[u8], is: bool) {
+    text(line);
+    if is {
+        title(b", in the calendar");
+    } else {
+        title(b", not in the calendar");
+    }
 }
 
 pub(crate) fn refusal(number_of_it: u32) {
     text(b"refusal ");
-    number(number_of_it as u64);
-    text(b"\n");
+    last(number_of_it as u64);
 }
 
 fn bit(faults: u16, k: u16)
     requires { ⌜ k < 16 ⌝ }
 {
-    if rules::masks::shows(faults, k) {
+    if masks::shows(faults, k) {
         text(b" ");
         number(k as u64);
     }
@@ -47,21 +71,9 @@ fn bits(faults: u16) {
     }
 }
 
-fn bulk(line: &[u8]) {
-    match wire::u8_at(line, OUTCOME) {
-        0 => text(b"bulk accepted"),
-        1 => text(b"bulk partial"),
-        _ => text(b"bulk rejected"),
-    }
-    bits(wire::u16_at(line, FAULTS));
-}
-
-fn message(line: &[u8]) {
-    match wire::u8_at(line, OUTCOME) {
-        0 => text(b"; message accepted"),
-        1 => text(b"; message rejected"),
-        _ => text(b"; message fell"),
-    }
+// The outcome's word, and the faults.
+fn line(outcomes: &[u8], line: &[u8]) {
+    text(words::word(outcomes, wire::u8_at(line, OUTCOME) as usize));
     bits(wire::u16_at(line, FAULTS));
 }
 
@@ -70,30 +82,39 @@ fn messages(section: &[u8]) {
     let count = wire::u32_at(section, 0);
     let mut i: u32 = 0;
     while i < count {
-        message(wire::text_at(section, 4 + MESSAGE_LINE * (i as usize), MESSAGE_LINE));
+        text(b"; message ");
+        line(
+            b"accepted rejected fell",
+            wire::text_at(section, 4 + MESSAGE_LINE * (i as usize), MESSAGE_LINE),
+        );
         i += 1;
     }
 }
 
-fn used(register: &[u8]) {
-    text(b"; register holds ");
-    number(register::used(register) as u64);
-    text(b"\n");
+fn bulk(report: &[u8]) {
+    text(b"bulk ");
+    line(
+        b"accepted partial rejected",
+        wire::text_at(report, 4, BULK_LINE),
+    );
+    messages(wire::text_at(report, 4 + BULK_LINE, report.len()));
+}
+
+fn size(length: usize) {
+    text(b"report of ");
+    number(length as u64);
+    text(b" bytes");
 }
 
 // The report of one bulk, and how many entries of the register are used after it.
 pub(crate) fn report(report: &[u8], register: &[u8]) {
-    bulk(wire::text_at(report, 4, BULK_LINE));
-    messages(wire::text_at(report, 4 + BULK_LINE, report.len()));
-    used(register);
-}
-
-// Of a report of many lines, its length and the entries used.
-pub(crate) fn long_report(length: usize, register: &[u8]) {
-    text(b"report of ");
-    number(length as u64);
-    text(b" bytes");
-    used(register);
+    if (report.len() <= 4) | (MOST_SHOWN < report.len()) {
+        size(report.len());
+    } else {
+        bulk(report);
+    }
+    text(b"; register holds ");
+    last(register::used(register) as u64);
 }
 
 // The row that a lookup found.

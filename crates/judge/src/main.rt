@@ -1,16 +1,13 @@
 // The program: reads standard input, and writes out the response that the crate printing proves. What is not proved is what any
-// program's reading and writing rests on: that the bytes come in and go out as they are.
-
-// A date and three parts, each after its length, and one byte more to see that nothing follows.
-const MOST_INPUT: usize = 49169;
-
-// No response is longer.
-const MOST_OUTPUT: usize = 73728;
+// program's reading and writing rests on: that the bytes come in and go out as they are. That both buffers are long enough for an
+// input of any length is part of what `respond_all` tells.
+use frame::MOST_INPUT;
+use printing::MOST_OUTPUT;
 
 fn main() {
     let mut input = [0u8; MOST_INPUT];
     let mut out = [0u8; MOST_OUTPUT];
     let n = io::read_full(libc::STDIN_FILENO, &mut input);
-    let written = printing::respond(&input[..n], &mut out);
+    let written = printing::respond_all(&input, n, &mut out);
     io::write_all(libc::STDOUT_FILENO, &out[..written]);
 }

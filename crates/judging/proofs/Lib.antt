@@ -3,6 +3,6 @@ pub mod Answers
 pub mod Demands
 mod Rounds
 mod Sections
-mod Walks
+pub mod Walks
 pub mod Whole
 pub mod Widths

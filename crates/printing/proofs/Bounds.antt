@@ -13,20 +13,23 @@ use Rattle.wire.proofs.Texts.{take-bytes}
 use Rattle.wire.proofs.Stores.{part-stored}
 use Rattle.sheet.specs.Sheet.{bulkCount, messageCount, whole}
 use Rattle.report.specs.Line.{reportLength}
-use Rattle.judging.specs.Refusals.{Call, holds, refusals, firstHolding, refusal, numberOf}
+use Rattle.refusing.specs.Refusals.{Call, holds, refusals, firstHolding, refusal, refusalNumber}
 use Rattle.judging.specs.Outcome.{Outcome, outcome, left}
-use Rattle.judging.proofs.Clear.{clear-of, number-is, outcome-judged}
+use Rattle.refusing.proofs.Clear.{clear-of}
+use Rattle.judging.proofs.Answers.{number-is, outcome-judged}
 use Rattle.judging.specs.declared.Answer.{Answer}
-use Rattle.judging.specs.declared.Refusal.{Refusal}
-use Rattle.judging.specs.declared.Refusal.the-variants.{Date, Table, Positions, Register, Sheet, Size, Kind, Order, Room, Limit, Space}
-use Rattle.printing.specs.Lines.{judgedText, refusalText}
+use Rattle.refusing.specs.declared.Refusal.{Refusal}
+use Rattle.refusing.specs.declared.Refusal.the-variants.{Date, Table, Positions, Register, Sheet, Size, Kind, Order, Room, Limit, Space}
+use Rattle.figures.specs.Figures.{refusalText}
+use Rattle.figures.proofs.Lengths.{refusal-short}
+use Rattle.sections.specs.Sections.{judgedText}
+use Rattle.sections.proofs.Lengths.{all-positions-short, used-short}
 use Rattle.printing.specs.Response.{outcomeText}
-use Rattle.printing.proofs.Lengths.{all-positions-short, used-short, refusal-short}
 use Rattle.printing.proofs.Reports.{judgedReport, report-length, report-short}
 
 -- ---- the number of a refusal
 
-small : (r : Refusal) → numberOf r < 100
+small : (r : Refusal) → refusalNumber r < 100
 small Date = lit< tt
 small Table = lit< tt
 small Positions = lit< tt
@@ -44,7 +47,7 @@ unfolding firstHolding
 numbers-small [] call = lit< tt
 numbers-small (r ∷ rs) call = by-test (holds r call) (numbers-small rs call)
   where
-    by-test : (t : Bool) → firstHolding rs call < 100 → cond t (numberOf r) (firstHolding rs call) < 100
+    by-test : (t : Bool) → firstHolding rs call < 100 → cond t (refusalNumber r) (firstHolding rs call) < 100
     by-test true h = small r
     by-test false h = h
 

@@ -7,20 +7,25 @@ use lib.ListN.{length, replicate}
 use Rattle.wire.specs.Field.{text, bytesOf, numberFrom, same}
 use Rattle.wire.specs.Places.{firstFrom, everyFrom}
 use Rattle.calendar.specs.Date.{isDate, daysIn, leap}
+use Rattle.masks.specs.Mask.{mask}
 use Rattle.routing.specs.Table.{wellFormed, kindsKnown}
 use Rattle.routing.specs.Lookup.{rowOf, route}
-use Rattle.register.specs.Register.{search, stands, add, wellFormed as registerFormed}
+use Rattle.register.specs.Register.{entry, search, stands, add, wellFormed as registerFormed}
 use Rattle.positions.specs.Positions.{roomForAll, gains, loses}
-use Rattle.sheet.specs.Sheet.{recordsAt, bulksFrom, endFrom, messagesFrom, whole, shape, mixed, kindsKnown as sheetKinds}
+use Rattle.sheet.specs.Sheet.{messageWidth, recordsAt, bulksFrom, endFrom, messagesFrom, whole, shape, mixed, kindsKnown as sheetKinds}
 use Rattle.wording.specs.Wording.{among, allowed, kept, formed, badlyFormed, bicFormed, blank, oneOf}
-use Rattle.rules.specs.Facts.{mask, bulkFaults, messageFaults}
-use Rattle.report.specs.Line.{bulkLine, messageLine}
-use Rattle.judging.specs.Judgement.{sumOf, afterMessage, lineOf, counted, judgeMessages, bulkLineOf, sectionOf, afterBulk, judgeBulks}
-use Rattle.judging.specs.Refusals.{holds, firstHolding, refusal}
+use Rattle.faults.specs.Faults.{bulkFaults, messageFaults}
+use Rattle.report.specs.Line.{messageLineWidth, bulkLine, messageLine}
+use Rattle.refusing.specs.Refusals.{holds, firstHolding, refusal}
+use Rattle.messages.specs.Messages.{sumOf, afterMessage, lineOf, counted, judgeMessages}
+use Rattle.judging.specs.Judgement.{bulkLineOf, sectionOf, afterBulk, judgeBulks}
 use Rattle.judging.specs.Outcome.{outcome}
-use Rattle.printing.specs.Decimal.{digitsOf, decimalIn, decimal}
-use Rattle.printing.specs.Lines.{lineEnd, identifierText, headText, bulkText, messageText, signedText, positionText, usedText, refusalText, messagesText, bulksText, reportText, positionsFrom, positionsText, judgedText}
-use Rattle.printing.specs.Response.{inShape, zeros, outcomeText, response}
+use Rattle.decimals.specs.Decimal.{decimalIn, decimal, lineEnd}
+use Rattle.lines.specs.Lines.{identifierText, headText, totalsText, bulkText, messageText}
+use Rattle.figures.specs.Figures.{signedText, positionText, numberText}
+use Rattle.sections.specs.Sections.{messagesText, bulksText, reportText, positionsFrom, positionsText, judgedText}
+use Rattle.frame.specs.Frame.{inShape}
+use Rattle.printing.specs.Response.{zeros, outcomeText, response}
 
 -- ---- numbers
 
@@ -113,10 +118,10 @@ expected =
     ++ lineEnd
 
 wholeCase : response input ≡ expected
-unfolding padded row message sized sheet table input expected bytesOf numberFrom same firstFrom everyFrom isDate daysIn leap wellFormed kindsKnown rowOf route search stands add registerFormed roomForAll gains loses recordsAt bulksFrom endFrom messagesFrom whole shape mixed sheetKinds among allowed kept formed badlyFormed bicFormed blank oneOf mask bulkFaults messageFaults bulkLine messageLine sumOf afterMessage lineOf counted judgeMessages bulkLineOf sectionOf afterBulk judgeBulks holds firstHolding refusal outcome digitsOf decimalIn decimal identifierText headText bulkText messageText signedText positionText usedText messagesText bulksText reportText positionsFrom positionsText judgedText inShape zeros outcomeText response
+unfolding padded row message sized sheet table input expected bytesOf numberFrom same firstFrom everyFrom isDate daysIn leap mask wellFormed kindsKnown rowOf route entry search stands add registerFormed roomForAll gains loses messageWidth recordsAt bulksFrom endFrom messagesFrom whole shape mixed sheetKinds among allowed kept formed badlyFormed bicFormed blank oneOf bulkFaults messageFaults messageLineWidth bulkLine messageLine sumOf afterMessage lineOf counted judgeMessages bulkLineOf sectionOf afterBulk judgeBulks holds firstHolding refusal outcome decimalIn decimal identifierText headText totalsText bulkText messageText signedText positionText numberText messagesText bulksText reportText positionsFrom positionsText judgedText inShape zeros outcomeText response
 wholeCase = refl
 
 -- a byte too many
 left-over : response (input ++ (0 ∷ [])) ≡ text "X 99" ++ lineEnd
-unfolding padded row message sized sheet table input bytesOf numberFrom digitsOf decimalIn decimal refusalText inShape response
+unfolding padded row message sized sheet table input bytesOf numberFrom decimalIn decimal numberText inShape response
 left-over = refl

@@ -1,11 +1,6 @@
 pub mod Always
 pub mod Bounds
 pub mod Cases
-pub mod Decimals
-pub mod Lengths
-pub mod Limbs
-pub mod Pieces
 pub mod Reports
-pub mod Runs
-pub mod Shapes
-pub mod Turns
+mod Runs
+mod Shapes

@@ -4,7 +4,7 @@ use mathlib.Core.Path.{_≡_, refl, sym, ap, _∙_}
 use mathlib.Core.Bool.{true}
 use mathlib.Core.List.{List, [], _++_, append-nil, append-assoc}
 use Prim.Native.Nat.{ℕ, zero, suc, _+_, _*_, _^_, _≤_, _<_}
-use native.Mathlib.Nat.{mod-eq-of-lt, lt-of-lt-of-le, pow-le-pow-right}
+use native.Mathlib.Nat.{mod-eq-of-lt, lt-of-lt-of-le, pow-le-pow-right, mul-le-mul-right}
 use native.Mathlib.Omega.{arith}
 use lib.Dec.{lit<}
 use lib.ListN.{length, drop, length-append}
@@ -12,16 +12,20 @@ use lib.Seq.{take-at, drop-at}
 use Rattle.wire.specs.Field.{Bytes, part, numberOf, bytesOf}
 use Rattle.wire.proofs.Numbers.{number-below, bytes-length, written-read}
 use Rattle.wire.proofs.Texts.{part-bytes, part-short, drop-bytes}
-use Rattle.sheet.specs.Sheet.{headerWidth, messageWidth, recordsAt, countAt, afterSection, bulkAt, bulksFrom, bulkCount, messageCount, firstSection, endFrom, messagesFrom, whole}
-use Rattle.sheet.proofs.Laws.{section-inside, end-next, records-length, whole-facts}
-use Rattle.report.specs.Line.{bulkLineWidth, messageLineWidth, reportLength}
-use Rattle.judging.specs.Judgement.{State, judgeBulks, sectionOf, afterBulk, messagesJudged}
-use Rattle.judging.specs.Refusals.{Call}
+use Rattle.sheet.specs.Sheet.{headerWidth, fieldsWidth, kindOf, headerAt, widthAt, recordsAt, countAt, afterMessages, bulkAt, bulksFrom, bulkCount, messageCount, firstSection, endFrom, messagesFrom, whole}
+use Rattle.sheet.proofs.Fields.{fields-fit}
+use Rattle.sheet.proofs.Laws.{bulk-inside, end-next, records-length, whole-facts}
+use Rattle.report.specs.Line.{bulkLineWidth, messageLineWidth, sectionsPlace, reportLength}
+use Rattle.rules.specs.declared.Terms.{Terms}
+use Rattle.messages.specs.Messages.{State}
+use Rattle.judging.specs.Judgement.{judgeBulks, sectionOf, afterBulk, messagesJudged}
+use Rattle.refusing.specs.Refusals.{Call}
 use Rattle.judging.specs.Outcome.{judgement, reportOf}
 use Rattle.judging.proofs.Widths.{section-wide, bulk-lines-wide}
 use Rattle.judging.proofs.Walks.{bulk-sections}
-use Rattle.printing.specs.Lines.{countIn, bulksText, reportText, afterSection as sectionsLeft}
-use Rattle.printing.proofs.Lengths.{messagesRead, bulks-short}
+use Rattle.sections.specs.Layout.{countIn, afterCount, laterSections}
+use Rattle.sections.specs.Sections.{bulksText, reportText}
+use Rattle.sections.proofs.Lengths.{messagesRead, bulks-short}
 
 -- ---- a count, read back
 
@@ -34,56 +38,59 @@ counts-small s at bytes = lt-of-lt-of-le (number-below (part s at 4) (part-bytes
 
 -- ---- the sections
 
-section-read : (date : ℕ) (table sheet : List ℕ) (head at : ℕ) (before : State) (xs : List ℕ) → Bytes sheet
-    → countIn (sectionOf date table (bulkAt sheet head at) before ++ xs) ≡ countAt sheet at
+section-read : (terms : Terms) (table sheet : List ℕ) (head at : ℕ) (before : State) (xs : List ℕ) → Bytes sheet
+    → countIn (sectionOf terms table (bulkAt sheet head at) before ++ xs) ≡ countAt sheet at
 unfolding sectionOf
-section-read date table sheet head at before xs bytes =
+section-read terms table sheet head at before xs bytes =
     let n = countAt sheet at in
-    let counted : length (recordsAt messageWidth sheet n (at + 4)) ≡ n = records-length messageWidth sheet n (at + 4) in
-    let lines = messagesJudged date table (bulkAt sheet head at) before .lines in
-    ap countIn (append-assoc (bytesOf 4 (length (recordsAt messageWidth sheet n (at + 4)))) lines xs)
+    let counted : length (recordsAt (widthAt sheet head) sheet n (at + 4)) ≡ n = records-length (widthAt sheet head) sheet n (at + 4) in
+    let lines = messagesJudged terms table (bulkAt sheet head at) before .lines in
+    ap countIn (append-assoc (bytesOf 4 (length (recordsAt (widthAt sheet head) sheet n (at + 4)))) lines xs)
     ∙ ap (λ (k : ℕ). countIn (bytesOf 4 k ++ (lines ++ xs))) counted
     ∙ count-read n (lines ++ xs) (counts-small sheet at bytes)
 
-module _ (date : ℕ) (table sheet : List ℕ) (bytes : Bytes sheet) where
-  pub sections-read : (n head at : ℕ) (before : State) (xs : List ℕ) → endFrom sheet n at ≤ length sheet
-      → messagesRead n (judgeBulks date table (bulksFrom sheet n head at) before .sections ++ xs) ≡ messagesFrom sheet n at
+module _ (terms : Terms) (table sheet : List ℕ) (bytes : Bytes sheet) where
+  pub sections-read : (n head at : ℕ) (before : State) (xs : List ℕ) → head + headerWidth * n ≤ length sheet → endFrom sheet n head at ≤ length sheet
+      → messagesRead n (judgeBulks terms table (bulksFrom sheet n head at) before .sections ++ xs) ≡ messagesFrom sheet n head at
   unfolding messagesRead messagesFrom bulksFrom
-  sections-read zero head at before xs h = refl
-  sections-read (suc n) head at before xs h =
+  sections-read zero head at before xs headed h = refl
+  sections-read (suc n) head at before xs headed h =
       let bulk = bulkAt sheet head at in
-      let first = sectionOf date table bulk before in
-      let rest = judgeBulks date table (bulksFrom sheet n (head + headerWidth) (afterSection sheet at)) (afterBulk date table bulk before) .sections in
-      let inside = section-inside sheet n at h in
-      let wide : length first ≡ 4 + messageLineWidth * countAt sheet at = section-wide date table sheet bulk (countAt sheet at) (at + 4) before refl (inside .messages) in
-      let count : countIn (first ++ (rest ++ xs)) ≡ countAt sheet at = section-read date table sheet head at before (rest ++ xs) bytes in
-      let left : sectionsLeft (first ++ (rest ++ xs)) ≡ rest ++ xs =
+      let first = sectionOf terms table bulk before in
+      let rest = judgeBulks terms table (bulksFrom sheet n (head + headerWidth) (afterMessages sheet head at)) (afterBulk terms table bulk before) .sections in
+      let inside = bulk-inside sheet n head at (omega arith) h in
+      let wide : length first ≡ 4 + messageLineWidth * countAt sheet at = section-wide terms table sheet bulk (kindOf (headerAt sheet head)) (countAt sheet at) (at + 4) before refl (inside .messages) in
+      let count : countIn (first ++ (rest ++ xs)) ≡ countAt sheet at = section-read terms table sheet head at before (rest ++ xs) bytes in
+      let left : laterSections (first ++ (rest ++ xs)) ≡ rest ++ xs =
       ap (λ (k : ℕ). drop (4 + messageLineWidth * k) (first ++ (rest ++ xs))) count ∙ drop-at first (rest ++ xs) (4 + messageLineWidth * countAt sheet at) wide in
-      let later : messagesRead n (rest ++ xs) ≡ messagesFrom sheet n (afterSection sheet at) =
-      sections-read n (head + headerWidth) (afterSection sheet at) (afterBulk date table bulk before) xs (rw (end-next sheet n at) at h) in
-      ap (λ (s : List ℕ). messagesRead (suc n) (s ++ xs)) (bulk-sections date table bulk _ before)
+      let later : messagesRead n (rest ++ xs) ≡ messagesFrom sheet n (head + headerWidth) (afterMessages sheet head at) =
+      sections-read n (head + headerWidth) (afterMessages sheet head at) (afterBulk terms table bulk before) xs (omega arith) (rw (end-next sheet n head at) at h) in
+      ap (λ (s : List ℕ). messagesRead (suc n) (s ++ xs)) (bulk-sections terms table bulk _ before)
       ∙ ap (λ (s : List ℕ). messagesRead (suc n) s) (append-assoc first rest xs)
-      ∙ ap (λ (k : ℕ). k + messagesRead n (sectionsLeft (first ++ (rest ++ xs)))) count
+      ∙ ap (λ (k : ℕ). k + messagesRead n (laterSections (first ++ (rest ++ xs)))) count
       ∙ ap (λ (s : List ℕ). countAt sheet at + messagesRead n s) left
       ∙ ap (λ (k : ℕ). countAt sheet at + k) later
 
-  pub sections-wide : (n head at : ℕ) (before : State) → endFrom sheet n at ≤ length sheet
-      → length (judgeBulks date table (bulksFrom sheet n head at) before .sections) ≡ 4 * n + messageLineWidth * messagesFrom sheet n at
+  pub sections-wide : (n head at : ℕ) (before : State) → head + headerWidth * n ≤ length sheet → endFrom sheet n head at ≤ length sheet
+      → length (judgeBulks terms table (bulksFrom sheet n head at) before .sections) ≡ 4 * n + messageLineWidth * messagesFrom sheet n head at
   unfolding messagesFrom bulksFrom judgeBulks
-  sections-wide zero head at before h = refl
-  sections-wide (suc n) head at before h =
+  sections-wide zero head at before headed h = omega arith
+  sections-wide (suc n) head at before headed h =
       let bulk = bulkAt sheet head at in
-      let inside = section-inside sheet n at h in
-      let wide = section-wide date table sheet bulk (countAt sheet at) (at + 4) before refl (inside .messages) in
-      let rest = sections-wide n (head + headerWidth) (afterSection sheet at) (afterBulk date table bulk before) (rw (end-next sheet n at) at h) in
-      length-append (sectionOf date table bulk before) _ ∙ (rw (wide, rest) (omega arith))
+      let inside = bulk-inside sheet n head at (omega arith) h in
+      let wide = section-wide terms table sheet bulk (kindOf (headerAt sheet head)) (countAt sheet at) (at + 4) before refl (inside .messages) in
+      let rest = sections-wide n (head + headerWidth) (afterMessages sheet head at) (afterBulk terms table bulk before) (omega arith) (rw (end-next sheet n head at) at h) in
+      length-append (sectionOf terms table bulk before) _ ∙ (rw (wide, rest) (omega arith))
 
--- ---- the sheet's own length
+-- ---- the sheet's own length: a message takes all its fields, and maybe more
 
-pub sheet-length : (sheet : List ℕ) (n at : ℕ) → endFrom sheet n at ≡ at + 4 * n + messageWidth * messagesFrom sheet n at
+pub sheet-length : (sheet : List ℕ) (n head at : ℕ) → at + 4 * n + fieldsWidth * messagesFrom sheet n head at ≤ endFrom sheet n head at
 unfolding endFrom messagesFrom
-sheet-length sheet zero at = omega arith
-sheet-length sheet (suc n) at = let rest = sheet-length sheet n (afterSection sheet at) in omega arith
+sheet-length sheet zero head at = omega arith
+sheet-length sheet (suc n) head at =
+    let rest = sheet-length sheet n (head + headerWidth) (afterMessages sheet head at) in
+    let wide = mul-le-mul-right {m = fieldsWidth} {n = widthAt sheet head} (countAt sheet at) (fields-fit (kindOf (headerAt sheet head))) in
+    omega arith
 
 -- ---- the report of a whole sheet
 
@@ -91,12 +98,12 @@ abbrev pub judgedReport : Call → List ℕ
 judgedReport call = reportOf (bulkCount (call .sheet)) (judgement call)
 
 module _ (call : Call) (bytes : Bytes (call .sheet)) (e : whole (call .sheet) ≡ true) where
-  ended : endFrom (call .sheet) (bulkCount (call .sheet)) (firstSection (call .sheet)) ≤ length (call .sheet)
+  ended : endFrom (call .sheet) (bulkCount (call .sheet)) 4 (firstSection (call .sheet)) ≤ length (call .sheet)
   ended = let end = whole-facts (call .sheet) e .ended in omega arith
 
   lines-length : length (judgement call .lines) ≡ bulkLineWidth * bulkCount (call .sheet)
   lines-length =
-      bulk-lines-wide (call .date) (call .table) (call .sheet) (bulkCount (call .sheet)) 4 (firstSection (call .sheet)) _ (whole-facts (call .sheet) e .headed)
+      bulk-lines-wide (call .terms) (call .table) (call .sheet) (bulkCount (call .sheet)) 4 (firstSection (call .sheet)) _ (whole-facts (call .sheet) e .headed)
 
   front-length : length (bytesOf 4 (bulkCount (call .sheet)) ++ judgement call .lines) ≡ 4 + bulkLineWidth * bulkCount (call .sheet)
   front-length =
@@ -104,17 +111,17 @@ module _ (call : Call) (bytes : Bytes (call .sheet)) (e : whole (call .sheet) �
 
   pub report-length : length (judgedReport call) ≡ reportLength (bulkCount (call .sheet)) (messageCount (call .sheet))
   report-length =
-      let wide = sections-wide (call .date) (call .table) (call .sheet) bytes (bulkCount (call .sheet)) 4 (firstSection (call .sheet)) (record { register = call .register; positions = call .positions }) ended in
+      let wide = sections-wide (call .terms) (call .table) (call .sheet) bytes (bulkCount (call .sheet)) 4 (firstSection (call .sheet)) (record { register = call .register; positions = call .positions }) (whole-facts (call .sheet) e .headed) ended in
       length-append (bytesOf 4 (bulkCount (call .sheet)) ++ judgement call .lines) (judgement call .sections)
       ∙ (rw (front-length, wide) (omega arith))
 
-  report-text : reportText (judgedReport call) ≡ bulksText (bulkCount (call .sheet)) (drop 4 (judgedReport call)) (judgement call .sections)
+  report-text : reportText (judgedReport call) ≡ bulksText (bulkCount (call .sheet)) (afterCount (judgedReport call)) (judgement call .sections)
   unfolding reportText
   report-text =
       let count : countIn (judgedReport call) ≡ bulkCount (call .sheet) =
       ap countIn (append-assoc (bytesOf 4 (bulkCount (call .sheet))) (judgement call .lines) (judgement call .sections))
       ∙ count-read (bulkCount (call .sheet)) (judgement call .lines ++ judgement call .sections) (counts-small (call .sheet) 0 bytes) in
-      let left : drop (4 + bulkLineWidth * bulkCount (call .sheet)) (judgedReport call) ≡ judgement call .sections =
+      let left : drop (sectionsPlace (bulkCount (call .sheet))) (judgedReport call) ≡ judgement call .sections =
       drop-at (bytesOf 4 (bulkCount (call .sheet)) ++ judgement call .lines) (judgement call .sections) (4 + bulkLineWidth * bulkCount (call .sheet)) front-length in
       rw (count, left)
 
@@ -122,13 +129,13 @@ module _ (call : Call) (bytes : Bytes (call .sheet)) (e : whole (call .sheet) �
   pub report-short : Bytes (judgedReport call) → length (reportText (judgedReport call)) ≤ 2 * length (call .sheet)
   report-short written =
       let b = bulkCount (call .sheet) in
-      let cut : drop (4 + bulkLineWidth * b) (judgedReport call) ≡ judgement call .sections =
+      let cut : drop (sectionsPlace b) (judgedReport call) ≡ judgement call .sections =
       drop-at (bytesOf 4 b ++ judgement call .lines) (judgement call .sections) (4 + bulkLineWidth * b) front-length in
       let sections : Bytes (judgement call .sections) = rw cut at (drop-bytes (4 + bulkLineWidth * b) (judgedReport call) written) in
-      let short = bulks-short b (drop 4 (judgedReport call)) (judgement call .sections) (drop-bytes 4 (judgedReport call) written) sections in
+      let short = bulks-short b (afterCount (judgedReport call)) (judgement call .sections) (drop-bytes 4 (judgedReport call) written) sections in
       let read : messagesRead b (judgement call .sections) ≡ messageCount (call .sheet) =
       ap (messagesRead b) (sym (append-nil (judgement call .sections)))
-      ∙ sections-read (call .date) (call .table) (call .sheet) bytes b 4 (firstSection (call .sheet)) (record { register = call .register; positions = call .positions }) [] ended in
-      let size = sheet-length (call .sheet) b (firstSection (call .sheet)) in
+      ∙ sections-read (call .terms) (call .table) (call .sheet) bytes b 4 (firstSection (call .sheet)) (record { register = call .register; positions = call .positions }) [] (whole-facts (call .sheet) e .headed) ended in
+      let size = sheet-length (call .sheet) b 4 (firstSection (call .sheet)) in
       let end = whole-facts (call .sheet) e .ended in
       rw report-text (omega arith)

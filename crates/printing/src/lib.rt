@@ -1,26 +1,36 @@
 // What the program prints: `respond` takes the bytes that it reads, and writes those that it prints into a lent buffer.
-mod buffer;
-mod input;
-mod lines;
-mod numbers;
 mod response;
-mod sections;
 
 ghost use Rattle.printing.specs.Response.{response};
-ghost use Rattle.printing.specs.Writing.{Answered};
+ghost use Rattle.printing.specs.Writing.{Answered, AnsweredAll};
+use frame::MOST_INPUT;
+
+// No response is longer.
+pub const MOST_OUTPUT: usize = 73728;
+
+// Printed for input of another shape.
+const ANOTHER_SHAPE: u32 = 99;
 
 // Answers any input. What has no room in the buffer is left out, and the answer is how many bytes were written.
 pub fn respond(input: &[u8], out: &mut [u8]) -> usize
     ensures { λ r. ⌜ Answered (now (out .entry)) (now (out .exit)) r (response (now (input .entry))) ⌝ }
 {
-    if !input::in_shape(input) {
-        return lines::put_refusal(out, 0, 99);
+    if !frame::in_shape(input) {
+        return figures::put_refusal(out, 0, ANOTHER_SHAPE);
     }
     response::put_judgement(
         out,
-        wire::u32_at(input, 0),
-        input::part_in(input::sheet_on(input)),
-        input::part_in(input::table_on(input)),
-        input::part_in(input::register_on(input)),
+        frame::date_in(input),
+        frame::sheet_in(input),
+        frame::table_in(input),
+        frame::register_in(input),
     )
+}
+
+// Answers an input of any length, of which the first n bytes were read: all of them, or as many as the buffer takes. The answer is
+// whole.
+pub fn respond_all(buffer: &[u8; MOST_INPUT], n: usize, out: &mut [u8; MOST_OUTPUT]) -> usize
+    ensures { λ r. ⌜ AnsweredAll (now (buffer .entry)) n (now (out .entry)) (now (out .exit)) r ⌝ }
+{
+    respond(frame::read_of(buffer, n), out)
 }

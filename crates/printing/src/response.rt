@@ -3,13 +3,14 @@ ghost use mathlib.Core.Path.{_≡_};
 ghost use Prim.Native.Nat.{_+_, _*_};
 ghost use lib.ListN.{length};
 ghost use Rattle.judging.specs.Outcome.{outcome};
-ghost use Rattle.judging.specs.Ready.{callOf};
-ghost use Rattle.printing.specs.Response.{mostPart, mostResponse, zeros, outcomeText, callWith};
+ghost use Rattle.refusing.specs.Checking.{callOf};
+ghost use Rattle.rules.specs.Terms.{dated};
+ghost use Rattle.frame.specs.Frame.{mostPart};
+ghost use Rattle.printing.specs.Response.{mostResponse, zeros, outcomeText, callWith};
 ghost use Rattle.printing.specs.Writing.{PrintedWithin, PartsFit};
-use crate::input::MOST_PART;
-use crate::lines;
-use crate::sections;
+use frame::MOST_PART;
 use judging::Answer;
+use rules::Terms;
 
 // Has a file judged, and prints the answer.
 fn put_answer(
@@ -21,11 +22,11 @@ fn put_answer(
     positions: &mut [u8],
     report: &mut [u8],
 ) -> usize
-    ensures { λ r. ⌜ PrintedWithin (2 * length (now (sheet .entry)) + 6 * length (now (positions .entry)) + 13) (now (out .entry)) (now (out .exit)) 0 r (outcomeText (outcome (callOf date (now (sheet .entry)) (now (table .entry)) (now (register .entry)) (now (positions .entry)) (now (report .entry))))) ⌝ }
+    ensures { λ r. ⌜ PrintedWithin (2 * length (now (sheet .entry)) + 6 * length (now (positions .entry)) + 13) (now (out .entry)) (now (out .exit)) 0 r (outcomeText (outcome (callOf (dated date) (now (sheet .entry)) (now (table .entry)) (now (register .entry)) (now (positions .entry)) (now (report .entry))))) ⌝ }
 {
-    let answered = judging::judge(date, sheet, table, register, positions, report);
+    let answered = judging::judge(Terms { date }, sheet, table, register, positions, report);
     match answered {
-        Answer::Refused(_) => lines::put_refusal(out, 0, judging::number_of(answered)),
+        Answer::Refused(_) => figures::put_refusal(out, 0, judging::number_of(answered)),
         Answer::Judged(length) => sections::put_judged(
             out,
             0,
@@ -59,7 +60,7 @@ pub(crate) fn put_judgement(
     let mut report = space();
     writing::put_text(&mut register, 0, given);
     let taken = given.len();
-    let places = sections::POSITION * routing::rows(table);
+    let places = positions::POSITION_WIDTH * routing::rows(table);
     put_answer(
         out,
         date,

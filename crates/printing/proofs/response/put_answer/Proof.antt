@@ -3,8 +3,9 @@ use mathlib.Core.Path.{_≡_}
 use lib.ListN.{length}
 use native.Mathlib.Omega.{arith}
 use Rattle.judging.specs.Outcome.{outcome}
-use Rattle.judging.specs.Ready.{callOf}
-use Rattle.printing.proofs.Runs.{reading}
+use Rattle.rules.specs.Terms.{dated}
+use Rattle.refusing.specs.Checking.{callOf}
+use Rattle.decimals.proofs.Runs.{reading}
 use Rattle.printing.proofs.Bounds.{answer-short}
 use Rattle.printing.proofs.Shapes.{refused-text, judged-text}
 use borrow.Author.Needs.{needs}
@@ -14,7 +15,7 @@ use Rattle.printing.proofs.response.put_answer.Tie as tie
 returns : tie.Need-returns
 returns c =
     let args = c .before .before .before .before .before .before .before .before .before .before .before .before .before .before .before .before .before .before .before .before .before .before .before .args in
-    let call = callOf (args .date) (args .sheet .now) (args .table .now) (args .register .now) (args .positions .now) (args .report .now) in
+    let call = callOf (dated (args .date)) (args .sheet .now) (args .table .now) (args .register .now) (args .positions .now) (args .report .now) in
     let judge = c .before .before .before .before .before .before .before .before .before .before .before .before .before .judge in
     let left = judge .last .1 .1 .1 in
     let same : length (left .1 .0) ≡ length (args .positions .now) = judge .kept .1 .1 .1 .1 .0 in
@@ -26,7 +27,7 @@ returns c =
 returns-2 : tie.Need-returns-2
 returns-2 c =
     let args = c .before .before .before .before .before .before .before .before .before .before .before .before .before .before .before .before .before .before .before .before .before .before .before .before .before .before .before .args in
-    let call = callOf (args .date) (args .sheet .now) (args .table .now) (args .register .now) (args .positions .now) (args .report .now) in
+    let call = callOf (dated (args .date)) (args .sheet .now) (args .table .now) (args .register .now) (args .positions .now) (args .report .now) in
     let judge = c .before .before .before .before .before .before .before .before .before .before .before .before .before .before .before .before .before .judge in
     let left = judge .last .1 .1 .1 in
     let same : length (left .1 .0) ≡ length (args .positions .now) = judge .kept .1 .1 .1 .1 .0 in

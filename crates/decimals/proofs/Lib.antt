@@ -1,0 +1,5 @@
+pub mod Decimals
+mod Limbs
+pub mod Lengths
+pub mod Runs
+mod Stored

@@ -1,0 +1,33 @@
+-- The parts of an input, read from their places. Assumes nothing.
+use mathlib.Core.Path.{_≡_, ap, _∙_}
+use mathlib.Core.Bool.{Bool, _&&_}
+use mathlib.Core.List.{List}
+use Prim.Native.Nat.{ℕ, _+_, _≤_}
+use native.Mathlib.Omega.{arith}
+use lib.Dec.{leb, eqb}
+use lib.ListN.{length, drop, length-drop}
+use lib.Seq.{take-all}
+use Rattle.wire.specs.Field.{part}
+use Rattle.frame.specs.Frame.{mostPart, lengthIn, fits, partIn, afterPart, tableOn, registerOn, sheetOn, inShape}
+
+-- all that is left from a place on
+pub rest-read : (s r : List ℕ) (at : ℕ) → r ≡ part s at (length s) → r ≡ drop at s
+rest-read s r at e =
+    let short : length (drop at s) ≤ length s = rw (length-drop at s) (omega arith) in
+    e ∙ take-all (length s) (drop at s) short
+
+pub after-read : (s r : List ℕ) (n : ℕ) → n ≡ lengthIn s → r ≡ part s (4 + n) (length s) → r ≡ afterPart s
+after-read s r n is e = rest-read s r (4 + n) e ∙ ap (λ (k : ℕ). drop (4 + k) s) is
+
+pub part-read : (s r : List ℕ) (n : ℕ) → n ≡ lengthIn s → r ≡ part s 4 n → r ≡ partIn s
+part-read s r n is e = e ∙ ap (λ (k : ℕ). part s 4 k) is
+
+pub fits-read : (s : List ℕ) (n : ℕ) → n ≡ lengthIn s → (leb n mostPart && leb (4 + n) (length s)) ≡ fits s
+fits-read s n is = ap (λ (k : ℕ). leb k mostPart && leb (4 + k) (length s)) is
+
+pub shape-read : (input table register sheet behind : List ℕ) (a b c : Bool)
+    → table ≡ tableOn input → register ≡ registerOn input → sheet ≡ sheetOn input → behind ≡ afterPart sheet
+    → a ≡ fits table → b ≡ fits register → c ≡ fits sheet
+    → (a && b && c && eqb (length behind) 0) ≡ inShape input
+unfolding inShape
+shape-read input table register sheet behind a b c et er es eb ea' eb' ec' = rw (ea', eb', ec', eb, et, er, es)

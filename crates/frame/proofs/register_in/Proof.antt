@@ -1,0 +1,14 @@
+-- `frame::register_in` meets its contract. Assumes nothing.
+use mathlib.Core.Path.{ap, _∙_}
+use mathlib.Core.List.{List}
+use Prim.Native.Nat.{ℕ}
+use Rattle.frame.specs.Frame.{partIn}
+use borrow.Author.Needs.{needs}
+use Rattle.frame.proofs.register_in.Statement.{statement}
+use Rattle.frame.proofs.register_in.Tie as tie
+
+returns : tie.Need-returns
+returns c = c .part-in .ensures ∙ ap (λ (s : List ℕ). partIn s) (c .before .register-on .ensures)
+
+pub register-in-spec : {M : Type 1} → statement M
+register-in-spec = tie.close (tie.spec (λ c κs. search needs) (λ c κs. search needs) returns)

@@ -1,0 +1,3 @@
+pub mod Lengths
+mod Places
+mod Turns
