@@ -103,5 +103,12 @@ int main(void) {
     print_route(table, sizeof table, "BBBBLV22KUL");
     print_route(table, sizeof table, "CCCCLV22XXX");
     print_route(table, sizeof table, "BBBBLV22");
+
+    /* a buffer of length 0 may be a null pointer: a table of no rows has no positions */
+    uint8_t empty[4] = {0}, used[4] = {0}, count[4];
+    answer = tynderaxo_judge(TODAY, empty, sizeof empty, empty, sizeof empty, used, sizeof used, NULL, 0, count, sizeof count);
+    printf("no bulks, no rows: answer %" PRIu32 ", report of %" PRIu64 " bytes\n", answer.number, answer.length);
+    answer = tynderaxo_judge(TODAY, NULL, 0, NULL, 0, NULL, 0, NULL, 0, NULL, 0);
+    printf("nothing at all: answer %" PRIu32 ", report of %" PRIu64 " bytes\n", answer.number, answer.length);
     return 0;
 }

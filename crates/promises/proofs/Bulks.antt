@@ -8,7 +8,7 @@ use native.Mathlib.Omega.{arith}
 use lib.ListN.{length}
 use Rattle.wire.specs.Field.{part, numberOf}
 use Rattle.wire.proofs.Texts.{part-length}
-use Rattle.sheet.specs.Sheet.{headerWidth, messageWidth, countAt, recordsAt, afterSection, Bulk, bulkAt, bulksFrom, endFrom, messagesFrom}
+use Rattle.sheet.specs.Sheet.{headerWidth, messageWidth, kindOf, countWidth, countAt, recordsAt, headerAt, Bulk, widthAt, afterMessages, bulkAt, bulksFrom, endFrom, messagesFrom}
 use Rattle.sheet.proofs.Laws.{end-forward}
 
 -- ---- two sheets that agree
@@ -25,7 +25,7 @@ records-agree w s t (suc n) a b agree =
 module _ (s t : List ℕ) where
   -- n headers from the places a and b on are the same bytes
   abbrev SameHeaders : ℕ → ℕ → ℕ → Type 0
-  SameHeaders n a b = (o : ℕ) → o + headerWidth ≤ headerWidth * n → part s (a + o) headerWidth ≡ part t (b + o) headerWidth
+  SameHeaders n a b = (o : ℕ) → o + headerWidth ≤ headerWidth * n → headerAt s (a + o) ≡ headerAt t (b + o)
 
   -- so are the next k bytes, wherever they are read
   abbrev SameBytes : ℕ → ℕ → ℕ → Type 0
@@ -33,53 +33,62 @@ module _ (s t : List ℕ) where
 
   pub record Agree (n heads headt ats att : ℕ) : Type 0 where
     pub bulks : bulksFrom s n heads ats ≡ bulksFrom t n headt att
-    pub messages : messagesFrom s n ats ≡ messagesFrom t n att
-    pub end : endFrom s n ats + att ≡ endFrom t n att + ats
+    pub messages : messagesFrom s n heads ats ≡ messagesFrom t n headt att
+    pub end : endFrom s n heads ats + att ≡ endFrom t n headt att + ats
 
-  -- the bytes of a section agree if its count does, and those that follow it
-  module _ (ats att k : ℕ) (bs : SameBytes k ats att) (inside : afterSection s ats ≤ ats + k) where
+  -- the bytes of a section agree if its header and its count do, and those that follow it
+  module _ (heads headt ats att k : ℕ) (header : headerAt s heads ≡ headerAt t headt) (bs : SameBytes k ats att) (inside : afterMessages s heads ats ≤ ats + k) where
+    abbrev width : ℕ
+    width = widthAt s heads
+
+    same-width : width ≡ widthAt t headt
+    same-width = ap (λ (h : List ℕ). messageWidth (kindOf h)) header
+
     same-count : countAt s ats ≡ countAt t att
     same-count =
         ap numberOf (
-        ap (λ (a : ℕ). part s a 4) (sym (add-zero ats)) ∙ bs 0 4 (omega arith) ∙ ap (λ (a : ℕ). part t a 4) (add-zero att))
+        ap (λ (a : ℕ). part s a countWidth) (sym (add-zero ats)) ∙ bs 0 countWidth (omega arith) ∙ ap (λ (a : ℕ). part t a countWidth) (add-zero att))
 
-    same-messages : recordsAt messageWidth s (countAt s ats) (ats + 4) ≡ recordsAt messageWidth t (countAt t att) (att + 4)
+    same-messages : recordsAt width s (countAt s ats) (ats + countWidth) ≡ recordsAt (widthAt t headt) t (countAt t att) (att + countWidth)
     same-messages =
-        records-agree messageWidth s t (countAt s ats) (ats + 4) (att + 4)
-        (λ o h. ap (λ (a : ℕ). part s a messageWidth) (add-assoc ats 4 o) ∙ bs (4 + o) messageWidth (omega arith) ∙ ap (λ (a : ℕ). part t a messageWidth) (sym (add-assoc att 4 o)))
-        ∙ ap (λ (c : ℕ). recordsAt messageWidth t c (att + 4)) same-count
+        records-agree width s t (countAt s ats) (ats + countWidth) (att + countWidth)
+        (λ o h. ap (λ (a : ℕ). part s a width) (add-assoc ats countWidth o) ∙ bs (countWidth + o) width (omega arith) ∙ ap (λ (a : ℕ). part t a width) (sym (add-assoc att countWidth o)))
+        ∙ ap₂ (λ (w c : ℕ). recordsAt w t c (att + countWidth)) same-width same-count
 
-    same-after : SameBytes (k - (4 + messageWidth * countAt s ats)) (afterSection s ats) (afterSection t att)
+    same-after : SameBytes (k - (countWidth + width * countAt s ats)) (afterMessages s heads ats) (afterMessages t headt att)
     same-after o n h =
-        let there : afterSection s ats + o ≡ ats + (4 + messageWidth * countAt s ats + o) = omega arith in
-        let here : att + (4 + messageWidth * countAt s ats + o) ≡ afterSection t att + o = rw (← same-count) (omega arith) in
-        ap (λ (a : ℕ). part s a n) there ∙ bs (4 + messageWidth * countAt s ats + o) n (omega arith) ∙ ap (λ (a : ℕ). part t a n) here
+        let there : afterMessages s heads ats + o ≡ ats + (countWidth + width * countAt s ats + o) = omega arith in
+        let here : att + (countWidth + width * countAt s ats + o) ≡ afterMessages t headt att + o = rw (← same-count, ← same-width) (omega arith) in
+        ap (λ (a : ℕ). part s a n) there ∙ bs (countWidth + width * countAt s ats + o) n (omega arith) ∙ ap (λ (a : ℕ). part t a n) here
 
   same-later : (n heads headt : ℕ) → SameHeaders (suc n) heads headt → SameHeaders n (heads + headerWidth) (headt + headerWidth)
   same-later n heads headt hs o h =
-      ap (λ (a : ℕ). part s a headerWidth) (add-assoc heads headerWidth o)
+      ap (headerAt s) (add-assoc heads headerWidth o)
       ∙ hs (headerWidth + o) (omega arith)
-      ∙ ap (λ (a : ℕ). part t a headerWidth) (sym (add-assoc headt headerWidth o))
+      ∙ ap (headerAt t) (sym (add-assoc headt headerWidth o))
 
-  same-first : (n heads headt : ℕ) → SameHeaders (suc n) heads headt → part s heads headerWidth ≡ part t headt headerWidth
-  same-first n heads headt hs =
-      ap (λ (a : ℕ). part s a headerWidth) (sym (add-zero heads)) ∙ hs 0 (omega arith) ∙ ap (λ (a : ℕ). part t a headerWidth) (add-zero headt)
+  same-first : (n heads headt : ℕ) → SameHeaders (suc n) heads headt → headerAt s heads ≡ headerAt t headt
+  same-first n heads headt hs = ap (headerAt s) (sym (add-zero heads)) ∙ hs 0 (omega arith) ∙ ap (headerAt t) (add-zero headt)
 
-  pub bulks-agree : (n heads headt ats att k : ℕ) → SameHeaders n heads headt → SameBytes k ats att → endFrom s n ats ≤ ats + k → Agree n heads headt ats att
+  pub bulks-agree : (n heads headt ats att k : ℕ) → SameHeaders n heads headt → SameBytes k ats att → endFrom s n heads ats ≤ ats + k
+      → Agree n heads headt ats att
   unfolding bulksFrom messagesFrom endFrom
   bulks-agree zero heads headt ats att k hs bs h = record { bulks = refl; messages = refl; end = omega arith }
   bulks-agree (suc n) heads headt ats att k hs bs h =
-      let inside : afterSection s ats ≤ ats + k = omega (arith, end-forward s n (afterSection s ats)) in
-      let count = same-count ats att k bs inside in
-      let fits : endFrom s n (afterSection s ats) ≤ afterSection s ats + (k - (4 + messageWidth * countAt s ats)) = omega arith in
+      let first = same-first n heads headt hs in
+      let over = afterMessages s heads ats in
+      let inside : over ≤ ats + k = omega (arith, end-forward s n (heads + headerWidth) over) in
+      let count = same-count heads headt ats att k first bs inside in
+      let wide = same-width heads headt ats att k first bs inside in
       let rest =
-      bulks-agree n (heads + headerWidth) (headt + headerWidth) (afterSection s ats) (afterSection t att) (k - (4 + messageWidth * countAt s ats))
-      (same-later n heads headt hs) (same-after ats att k bs inside) fits
+      bulks-agree n (heads + headerWidth) (headt + headerWidth) over (afterMessages t headt att) (k - (countWidth + widthAt s heads * countAt s ats))
+      (same-later n heads headt hs) (same-after heads headt ats att k first bs inside) (omega arith)
       in
+      let moved : over + att ≡ afterMessages t headt att + ats = rw (← count, ← wide) (omega arith) in
       record {
         bulks =
             ap₂ (λ (b : Bulk) (l : List Bulk). b ∷ l)
-            (λ i. record { header = same-first n heads headt hs i; messages = same-messages ats att k bs inside i })
+            (λ i. record { header = first i; messages = same-messages heads headt ats att k first bs inside i })
             (rest .bulks);
         messages = ap₂ (λ (x y : ℕ). x + y) count (rest .messages);
         end = (let e = rest .end in omega arith);
@@ -88,54 +97,66 @@ module _ (s t : List ℕ) where
 -- ---- the first bulks, and the others
 
 module _ (s : List ℕ) where
-  pub bulks-split : (k n head at : ℕ) → bulksFrom s (k + n) head at ≡ bulksFrom s k head at ++ bulksFrom s n (head + headerWidth * k) (endFrom s k at)
+  pub bulks-split : (k n head at : ℕ) → bulksFrom s (k + n) head at ≡ bulksFrom s k head at ++ bulksFrom s n (head + headerWidth * k) (endFrom s k head at)
   unfolding bulksFrom endFrom
   bulks-split zero n head at = rw (zero-add n) (ap (λ (h : ℕ). bulksFrom s n h at) (omega arith))
   bulks-split (suc k) n head at =
+      let over = afterMessages s head at in
       let place : head + headerWidth + headerWidth * k ≡ head + headerWidth * suc k = omega arith in
       ap (λ (m : ℕ). bulksFrom s m head at) (suc-add k n)
       ∙ ap (λ (l : List Bulk). bulkAt s head at ∷ l) (
-      bulks-split k n (head + headerWidth) (afterSection s at)
-      ∙ ap (λ (h : ℕ). bulksFrom s k (head + headerWidth) (afterSection s at) ++ bulksFrom s n h (endFrom s k (afterSection s at))) place)
+      bulks-split k n (head + headerWidth) over
+      ∙ ap (λ (h : ℕ). bulksFrom s k (head + headerWidth) over ++ bulksFrom s n h (endFrom s k (head + headerWidth) over)) place)
 
-  pub messages-split : (k n at : ℕ) → messagesFrom s (k + n) at ≡ messagesFrom s k at + messagesFrom s n (endFrom s k at)
+  pub messages-split : (k n head at : ℕ) → messagesFrom s (k + n) head at ≡ messagesFrom s k head at + messagesFrom s n (head + headerWidth * k) (endFrom s k head at)
   unfolding messagesFrom endFrom
-  messages-split zero n at = rw (zero-add n) (sym (zero-add (messagesFrom s n at)))
-  messages-split (suc k) n at =
-      ap (λ (m : ℕ). messagesFrom s m at) (suc-add k n)
-      ∙ ap (λ (m : ℕ). countAt s at + m) (messages-split k n (afterSection s at))
-      ∙ sym (add-assoc (countAt s at) (messagesFrom s k (afterSection s at)) (messagesFrom s n (endFrom s k (afterSection s at))))
+  messages-split zero n head at = rw (zero-add n) (ap (λ (h : ℕ). messagesFrom s n h at) (omega arith) ∙ sym (zero-add (messagesFrom s n (head + headerWidth * 0) at)))
+  messages-split (suc k) n head at =
+      let over = afterMessages s head at in
+      let last = endFrom s k (head + headerWidth) over in
+      let place : head + headerWidth + headerWidth * k ≡ head + headerWidth * suc k = omega arith in
+      ap (λ (m : ℕ). messagesFrom s m head at) (suc-add k n)
+      ∙ ap (λ (m : ℕ). countAt s at + m) (messages-split k n (head + headerWidth) over)
+      ∙ sym (add-assoc (countAt s at) (messagesFrom s k (head + headerWidth) over) (messagesFrom s n (head + headerWidth + headerWidth * k) last))
+      ∙ ap (λ (h : ℕ). countAt s at + messagesFrom s k (head + headerWidth) over + messagesFrom s n h last) place
 
-  pub end-split : (k n at : ℕ) → endFrom s (k + n) at ≡ endFrom s n (endFrom s k at)
+  pub end-split : (k n head at : ℕ) → endFrom s (k + n) head at ≡ endFrom s n (head + headerWidth * k) (endFrom s k head at)
   unfolding endFrom
-  end-split zero n at = rw (zero-add n)
-  end-split (suc k) n at = ap (λ (m : ℕ). endFrom s m at) (suc-add k n) ∙ end-split k n (afterSection s at)
+  end-split zero n head at = rw (zero-add n) (ap (λ (h : ℕ). endFrom s n h at) (omega arith))
+  end-split (suc k) n head at =
+      let over = afterMessages s head at in
+      let place : head + headerWidth + headerWidth * k ≡ head + headerWidth * suc k = omega arith in
+      ap (λ (m : ℕ). endFrom s m head at) (suc-add k n)
+      ∙ end-split k n (head + headerWidth) over
+      ∙ ap (λ (h : ℕ). endFrom s n h (endFrom s k (head + headerWidth) over)) place
 
 -- ---- how wide they are
 
-unfoldable pub AllWide : List (List ℕ) → Type 0
-AllWide [] = Unit {0}
-AllWide (m ∷ ms) = (length m ≡ messageWidth) × AllWide ms
+-- messages of a kind
+unfoldable pub AllWide : ℕ → List (List ℕ) → Type 0
+AllWide kind [] = Unit {0}
+AllWide kind (m ∷ ms) = (length m ≡ messageWidth kind) × AllWide kind ms
 
 pub record Shaped (b : Bulk) : Type 0 where
   pub header : length (b .header) ≡ headerWidth
-  pub messages : AllWide (b .messages)
+  pub messages : AllWide (kindOf (b .header)) (b .messages)
 
 unfoldable pub AllShaped : List Bulk → Type 0
 AllShaped [] = Unit {0}
 AllShaped (b ∷ bs) = Shaped b × AllShaped bs
 
 module _ (s : List ℕ) where
-  records-wide : (n at : ℕ) → at + messageWidth * n ≤ length s → AllWide (recordsAt messageWidth s n at)
+  records-wide : (kind n at : ℕ) → at + messageWidth kind * n ≤ length s → AllWide kind (recordsAt (messageWidth kind) s n at)
   unfolding recordsAt AllWide
-  records-wide zero at h = tt
-  records-wide (suc n) at h = (part-length s at messageWidth (omega arith), records-wide n (at + messageWidth) (omega arith))
+  records-wide kind zero at h = tt
+  records-wide kind (suc n) at h = (part-length s at (messageWidth kind) (omega arith), records-wide kind n (at + messageWidth kind) (omega arith))
 
-  pub bulks-shaped : (n head at : ℕ) → head + headerWidth * n ≤ length s → endFrom s n at ≤ length s → AllShaped (bulksFrom s n head at)
+  pub bulks-shaped : (n head at : ℕ) → head + headerWidth * n ≤ length s → endFrom s n head at ≤ length s → AllShaped (bulksFrom s n head at)
   unfolding bulksFrom endFrom AllShaped
   bulks-shaped zero head at headed h = tt
   bulks-shaped (suc n) head at headed h =
-      let inside : afterSection s at ≤ length s = omega (arith, end-forward s n (afterSection s at)) in (
-        record { header = part-length s head headerWidth (omega arith); messages = records-wide (countAt s at) (at + 4) inside },
-        bulks-shaped n (head + headerWidth) (afterSection s at) (omega arith) h,
+      let over = afterMessages s head at in
+      let inside : over ≤ length s = omega (arith, end-forward s n (head + headerWidth) over) in (
+        record { header = part-length s head headerWidth (omega arith); messages = records-wide (kindOf (headerAt s head)) (countAt s at) (at + countWidth) inside },
+        bulks-shaped n (head + headerWidth) over (omega arith) h,
       )

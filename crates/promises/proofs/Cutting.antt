@@ -7,17 +7,19 @@ use native.Mathlib.Omega.{arith}
 use lib.ListN.{length, drop, length-drop}
 use lib.Seq.{take-all}
 use Rattle.wire.specs.Field.{part}
-use Rattle.sheet.specs.Sheet.{headerWidth, Bulk, bulkCount, messageCount, firstSection, bulksFrom, bulksOf, messagesFrom, messagesIn, endFrom, kindsKnown, mixed}
+use Rattle.sheet.specs.Sheet.{countWidth, headerWidth, Bulk, bulkCount, messageCount, firstSection, bulksFrom, bulksOf, messagesFrom, countMessages, endFrom, kindsKnown, mixed}
 use Rattle.sheet.proofs.Laws.{whole-facts, end-forward}
 use Rattle.positions.proofs.Moves.{room-less}
-use Rattle.rules.specs.Facts.{mostCents}
-use Rattle.judging.specs.Judgement.{State, judgeBulks}
-use Rattle.judging.specs.Refusals.{Call, refusal}
+use Rattle.rules.specs.OfMessage.{mostCents}
+use Rattle.messages.specs.Messages.{State}
+use Rattle.judging.specs.Judgement.{judgeBulks}
+use Rattle.refusing.specs.Refusals.{Call, refusal}
 use Rattle.judging.specs.Outcome.{Outcome, judgement, judgedOf, outcome}
 use Rattle.promises.specs.Reading.{InBytes, bulkLines, messageLines}
 use Rattle.promises.specs.Cut.{cutPlace, firstPart, secondPart, firstCall, secondCall, Enough, PartsMakeTheWhole, CutsAnywhere}
 use Rattle.promises.proofs.Bulks.{bulks-split, messages-split, end-split}
-use Rattle.judging.proofs.Clear.{Clear, clear-of, of-clear, outcome-judged, headers, known-parts, order-parts}
+use Rattle.refusing.proofs.Clear.{Clear, clear-of, of-clear, headers, known-parts, order-parts}
+use Rattle.judging.proofs.Answers.{outcome-judged}
 use Rattle.promises.proofs.Fit.{Fit, bulks-fit}
 use Rattle.promises.proofs.Joined.{joins}
 use Rattle.promises.proofs.Lines.{bulk-lines-read, message-lines-read, bulk-number, message-number}
@@ -45,40 +47,40 @@ module _ (call : Call) (clear : Clear call) (k : ℕ) (h : k ≤ bulkCount (call
   all : k + (b - k) ≡ b
   all = omega arith
 
-  few : b < 256 ^ 4
+  few : b < 256 ^ countWidth
   few = (let f = clear .fewBulks in omega arith)
 
-  cut-ends : endFrom s (b - k) cut ≡ length s
-  cut-ends = sym (end-split s k (b - k) start) ∙ ap (λ (n : ℕ). endFrom s n start) all ∙ whole-facts s (clear .whole) .ended
+  cut-ends : endFrom s (b - k) (countWidth + headerWidth * k) cut ≡ length s
+  cut-ends = sym (end-split s k (b - k) countWidth start) ∙ ap (λ (n : ℕ). endFrom s n countWidth start) all ∙ whole-facts s (clear .whole) .ended
 
-  first-holds : Holds one s k 4 start
+  first-holds : Holds one s k countWidth start
   first-holds =
       let headed = whole-facts s (clear .whole) .headed in
-      let forward = end-forward s k start in
-      let later = end-forward s (b - k) cut in
+      let forward = end-forward s k countWidth start in
+      let later = end-forward s (b - k) (countWidth + headerWidth * k) cut in
       let ends = cut-ends in
       let small = few in
-      taken-holds s k 4 start (cut - start) (omega arith) (omega arith) (omega arith) (omega arith)
+      taken-holds s k countWidth start (cut - start) (omega arith) (omega arith) (omega arith) (omega arith)
 
-  second-holds : Holds two s (b - k) (4 + headerWidth * k) cut
+  second-holds : Holds two s (b - k) (countWidth + headerWidth * k) cut
   second-holds =
       let headed = whole-facts s (clear .whole) .headed in
-      let later = end-forward s (b - k) cut in
+      let later = end-forward s (b - k) (countWidth + headerWidth * k) cut in
       let ends = cut-ends in
       let small = few in
       let rest : drop cut s ≡ part s cut (length s - cut) = sym (take-all (length s - cut) (drop cut s) (rw (length-drop cut s) (omega arith))) in
-      rw rest (taken-holds s (b - k) (4 + headerWidth * k) cut (length s - cut) (omega arith) (omega arith) (omega arith) (omega arith))
+      rw rest (taken-holds s (b - k) (countWidth + headerWidth * k) cut (length s - cut) (omega arith) (omega arith) (omega arith) (omega arith))
 
   bulks-are : bulksOf s ≡ bulksOf one ++ bulksOf two
   bulks-are =
-      ap (λ (n : ℕ). bulksFrom s n 4 start) (sym all)
-      ∙ bulks-split s k (b - k) 4 start
+      ap (λ (n : ℕ). bulksFrom s n countWidth start) (sym all)
+      ∙ bulks-split s k (b - k) countWidth start
       ∙ ap₂ (λ (x y : List Bulk). x ++ y) (sym (first-holds .bulks)) (sym (second-holds .bulks))
 
   messages-are : messageCount s ≡ messageCount one + messageCount two
   messages-are =
-      ap (λ (n : ℕ). messagesFrom s n start) (sym all)
-      ∙ messages-split s k (b - k) start
+      ap (λ (n : ℕ). messagesFrom s n countWidth start) (sym all)
+      ∙ messages-split s k (b - k) countWidth start
       ∙ ap₂ _+_ (sym (first-holds .messages)) (sym (second-holds .messages))
 
   kinds-are : (kindsKnown (headers (bulksOf one)) ≡ true) × (kindsKnown (headers (bulksOf two)) ≡ true)
@@ -126,7 +128,7 @@ module _ (call : Call) (clear : Clear call) (k : ℕ) (h : k ≤ bulkCount (call
         }
 
     -- the state that the first part leaves has room for the second
-    between : Fit (call .date) (call .table) (judgement c1 .after) (bulkCount two + messageCount two) (messageCount two)
+    between : Fit (call .terms) (call .table) (judgement c1 .after) (bulkCount two + messageCount two) (messageCount two)
     between =
         let m = messages-are in
         let n = first-holds .count in
@@ -134,13 +136,13 @@ module _ (call : Call) (clear : Clear call) (k : ℕ) (h : k ≤ bulkCount (call
         let ln = bulk-number c1 first-clear in
         let lm = message-number c1 first-clear in
         let r = clear .room in
-        bulks-fit (call .date) (call .table) (bulksOf one) before (bulkCount two + messageCount two) (messageCount two)
+        bulks-fit (call .terms) (call .table) (bulksOf one) before (bulkCount two + messageCount two) (messageCount two)
         (record {
           formed = clear .formed;
           free = omega arith;
           places = clear .places;
           bytes = bytes .positions;
-          room = room-less (call .positions) (messageCount s * mostCents) ((messagesIn (bulksOf one) + messageCount two) * mostCents) (clear .limit) (omega arith);
+          room = room-less (call .positions) (messageCount s * mostCents) ((countMessages (bulksOf one) + messageCount two) * mostCents) (clear .limit) (omega arith);
         })
 
     second-clear : Clear c2
@@ -166,22 +168,22 @@ module _ (call : Call) (clear : Clear call) (k : ℕ) (h : k ≤ bulkCount (call
 
     parts-make : PartsMakeTheWhole (judgedOf call (judgement call)) o1 o2
     parts-make =
-        let joined = joins (call .date) (call .table) (bulksOf one) (bulksOf two) before in
+        let joined = joins (call .terms) (call .table) (bulksOf one) (bulksOf two) before in
         record {
           firstJudged = refl;
           secondJudged = refl;
           bulkLines =
               bulk-lines-read call clear
-              ∙ ap (λ (bs : List Bulk). judgeBulks (call .date) (call .table) bs before .lines) bulks-are
+              ∙ ap (λ (bs : List Bulk). judgeBulks (call .terms) (call .table) bs before .lines) bulks-are
               ∙ joined .lines
               ∙ ap₂ (λ (x y : List ℕ). x ++ y) (sym (bulk-lines-read c1 first-clear)) (sym (bulk-lines-read c2 second-clear));
           messageLines =
               message-lines-read call clear
-              ∙ ap (λ (bs : List Bulk). judgeBulks (call .date) (call .table) bs before .sections) bulks-are
+              ∙ ap (λ (bs : List Bulk). judgeBulks (call .terms) (call .table) bs before .sections) bulks-are
               ∙ joined .sections
               ∙ ap₂ (λ (x y : List ℕ). x ++ y) (sym (message-lines-read c1 first-clear)) (sym (message-lines-read c2 second-clear));
-          register = sym (ap (λ (bs : List Bulk). judgeBulks (call .date) (call .table) bs before .after .register) bulks-are ∙ ap (λ (st : State). st .register) (joined .after));
-          positions = sym (ap (λ (bs : List Bulk). judgeBulks (call .date) (call .table) bs before .after .positions) bulks-are ∙ ap (λ (st : State). st .positions) (joined .after));
+          register = sym (ap (λ (bs : List Bulk). judgeBulks (call .terms) (call .table) bs before .after .register) bulks-are ∙ ap (λ (st : State). st .register) (joined .after));
+          positions = sym (ap (λ (bs : List Bulk). judgeBulks (call .terms) (call .table) bs before .after .positions) bulks-are ∙ ap (λ (st : State). st .positions) (joined .after));
         }
 
     cut-made : PartsMakeTheWhole (outcome call) (outcome c1) (outcome (secondCall call k (outcome c1) space'))

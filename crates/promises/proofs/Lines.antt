@@ -9,14 +9,14 @@ use lib.Seq.{take-all}
 use Rattle.wire.specs.Field.{part, numberOf, bytesOf}
 use Rattle.wire.proofs.Numbers.{bytes-length, written-read}
 use Rattle.wire.proofs.Stores.{part-stored}
-use Rattle.sheet.specs.Sheet.{bulkCount, messageCount, firstSection, bulksOf, messagesIn}
+use Rattle.sheet.specs.Sheet.{countWidth, bulkCount, messageCount, firstSection, bulksOf, countMessages}
 use Rattle.sheet.proofs.Laws.{whole-facts, bulks-length, bulks-messages}
-use Rattle.report.specs.Line.{bulkLineWidth, messageLineWidth, reportLength}
-use Rattle.judging.specs.Refusals.{Call}
+use Rattle.report.specs.Line.{bulkLineWidth, messageLineWidth, firstLine, sectionsPlace, reportLength}
+use Rattle.refusing.specs.Refusals.{Call}
 use Rattle.judging.specs.Outcome.{Outcome, judgement, reportOf, judgedOf}
-use Rattle.promises.specs.Reading.{lineCount, afterBulkLines, bulkLines, messageLines}
+use Rattle.promises.specs.Reading.{lineCount, bulkLines, messageLines}
 use Rattle.promises.proofs.Bulks.{AllShaped, bulks-shaped}
-use Rattle.judging.proofs.Clear.{Clear}
+use Rattle.refusing.proofs.Clear.{Clear}
 use Rattle.promises.proofs.Joined.{bulk-lines-wide, sections-wide}
 use Rattle.wire.proofs.Texts.{part-part, part-front, part-back}
 
@@ -33,29 +33,29 @@ module _ (call : Call) (clear : Clear call) where
   pub shaped : AllShaped (bulksOf (call .sheet))
   shaped =
       let facts = whole-facts (call .sheet) (clear .whole) in
-      bulks-shaped (call .sheet) b 4 (firstSection (call .sheet)) (facts .headed) (let e = facts .ended in omega arith)
+      bulks-shaped (call .sheet) b countWidth (firstSection (call .sheet)) (facts .headed) (let e = facts .ended in omega arith)
 
   pub bulk-number : length (bulksOf (call .sheet)) ≡ b
-  bulk-number = bulks-length (call .sheet) b 4 (firstSection (call .sheet))
+  bulk-number = bulks-length (call .sheet) b countWidth (firstSection (call .sheet))
 
-  pub message-number : messagesIn (bulksOf (call .sheet)) ≡ m
-  message-number = bulks-messages (call .sheet) b 4 (firstSection (call .sheet))
+  pub message-number : countMessages (bulksOf (call .sheet)) ≡ m
+  message-number = bulks-messages (call .sheet) b countWidth (firstSection (call .sheet))
 
   lines-length : length (judgement call .lines) ≡ bulkLineWidth * b
   lines-length =
-      bulk-lines-wide (call .date) (call .table) (bulksOf (call .sheet)) (record { register = call .register; positions = call .positions }) shaped
+      bulk-lines-wide (call .terms) (call .table) (bulksOf (call .sheet)) (record { register = call .register; positions = call .positions }) shaped
       ∙ (rw bulk-number)
 
-  sections-length : length (judgement call .sections) ≡ 4 * b + messageLineWidth * m
+  sections-length : length (judgement call .sections) ≡ countWidth * b + messageLineWidth * m
   sections-length =
-      sections-wide (call .date) (call .table) (bulksOf (call .sheet)) (record { register = call .register; positions = call .positions }) shaped
+      sections-wide (call .terms) (call .table) (bulksOf (call .sheet)) (record { register = call .register; positions = call .positions }) shaped
       ∙ (rw (bulk-number, message-number))
 
   abbrev front : List ℕ
-  front = bytesOf 4 b ++ judgement call .lines
+  front = bytesOf countWidth b ++ judgement call .lines
 
-  front-length : length front ≡ 4 + bulkLineWidth * b
-  front-length = length-append (bytesOf 4 b) (judgement call .lines) ∙ (rw (bytes-length 4 b, lines-length))
+  front-length : length front ≡ sectionsPlace b
+  front-length = length-append (bytesOf countWidth b) (judgement call .lines) ∙ (rw (bytes-length countWidth b, lines-length))
 
   pub report-length : length (reportOf b (judgement call)) ≡ reportLength b m
   report-length = length-append front (judgement call .sections) ∙ (rw (front-length, sections-length) (omega arith))
@@ -71,42 +71,42 @@ module _ (call : Call) (clear : Clear call) where
 
   pub count-read : lineCount left ≡ b
   count-read =
-      let wide = bytes-length 4 b in
+      let wide = bytes-length countWidth b in
       let few = clear .fewBulks in
       ap numberOf (
-      read-there 0 4 (omega arith)
-      ∙ part-front front (judgement call .sections) 0 4 (rw front-length (omega arith))
-      ∙ part-front (bytesOf 4 b) (judgement call .lines) 0 4 (omega arith)
-      ∙ take-all 4 (bytesOf 4 b) (omega arith))
-      ∙ written-read 4 b
+      read-there 0 countWidth (omega arith)
+      ∙ part-front front (judgement call .sections) 0 countWidth (rw front-length (omega arith))
+      ∙ part-front (bytesOf countWidth b) (judgement call .lines) 0 countWidth (omega arith)
+      ∙ take-all countWidth (bytesOf countWidth b) (omega arith))
+      ∙ written-read countWidth b
       ∙ mod-eq-of-lt (omega arith)
 
-  pub lines-read : (o n : ℕ) → o + n ≤ length (judgement call .lines) → part (left .report) (4 + o) n ≡ part (judgement call .lines) o n
+  pub lines-read : (o n : ℕ) → o + n ≤ length (judgement call .lines) → part (left .report) (firstLine + o) n ≡ part (judgement call .lines) o n
   lines-read o n h =
       let long = lines-length in
-      read-there (4 + o) n (omega arith)
-      ∙ part-front front (judgement call .sections) (4 + o) n (rw front-length (omega arith))
-      ∙ part-back (bytesOf 4 b) (judgement call .lines) 4 o n (bytes-length 4 b)
+      read-there (firstLine + o) n (omega arith)
+      ∙ part-front front (judgement call .sections) (firstLine + o) n (rw front-length (omega arith))
+      ∙ part-back (bytesOf countWidth b) (judgement call .lines) firstLine o n (bytes-length countWidth b)
 
   pub bulk-lines-read : bulkLines left ≡ judgement call .lines
   bulk-lines-read =
       let long = lines-length in
-      ap (λ (k : ℕ). part (left .report) 4 (bulkLineWidth * k)) count-read
+      ap (λ (k : ℕ). part (left .report) firstLine (bulkLineWidth * k)) count-read
       ∙ lines-read 0 (bulkLineWidth * b) (omega arith)
       ∙ take-all (bulkLineWidth * b) (judgement call .lines) (omega arith)
 
-  pub sections-read : (o n : ℕ) → o + n ≤ length (judgement call .sections) → part (left .report) (afterBulkLines b + o) n ≡ part (judgement call .sections) o n
+  pub sections-read : (o n : ℕ) → o + n ≤ length (judgement call .sections) → part (left .report) (sectionsPlace b + o) n ≡ part (judgement call .sections) o n
   sections-read o n h =
       let long = sections-length in
-      read-there (afterBulkLines b + o) n (omega arith)
-      ∙ part-back front (judgement call .sections) (afterBulkLines b) o n front-length
+      read-there (sectionsPlace b + o) n (omega arith)
+      ∙ part-back front (judgement call .sections) (sectionsPlace b) o n front-length
 
   pub message-lines-read : messageLines left ≡ judgement call .sections
   message-lines-read =
       let long = sections-length in
-      let rest : reportLength b m - afterBulkLines b ≡ 4 * b + messageLineWidth * m = omega arith in
-      ap (λ (k : ℕ). part (left .report) (afterBulkLines k) (reportLength b m - afterBulkLines k)) count-read
-      ∙ ap (λ (n : ℕ). part (left .report) (afterBulkLines b) n) rest
-      ∙ ap (λ (k : ℕ). part (left .report) k (4 * b + messageLineWidth * m)) (sym (add-zero (afterBulkLines b)))
-      ∙ sections-read 0 (4 * b + messageLineWidth * m) (omega arith)
-      ∙ take-all (4 * b + messageLineWidth * m) (judgement call .sections) (omega arith)
+      let rest : reportLength b m - sectionsPlace b ≡ countWidth * b + messageLineWidth * m = omega arith in
+      ap (λ (k : ℕ). part (left .report) (sectionsPlace k) (reportLength b m - sectionsPlace k)) count-read
+      ∙ ap (λ (n : ℕ). part (left .report) (sectionsPlace b) n) rest
+      ∙ ap (λ (k : ℕ). part (left .report) k (countWidth * b + messageLineWidth * m)) (sym (add-zero (sectionsPlace b)))
+      ∙ sections-read 0 (countWidth * b + messageLineWidth * m) (omega arith)
+      ∙ take-all (countWidth * b + messageLineWidth * m) (judgement call .sections) (omega arith)

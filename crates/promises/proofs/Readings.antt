@@ -4,10 +4,11 @@ use mathlib.Core.Path.{_≡_, refl, sym, ap, _∙_}
 use mathlib.Core.Bool.{true, false, cond}
 use mathlib.Core.List.{List, [], _∷_, List·isSet}
 use mathlib.Core.Option.{Option, none, some}
-use Prim.Native.Nat.{ℕ, zero, suc, _+_, _*_, _^_, _<_}
+use Prim.Native.Nat.{ℕ, zero, suc, _+_, _-_, _*_, _^_, _<_}
 use native.Mathlib.Nat.{ℕ-set}
 use native.Mathlib.Omega.{arith}
 use lib.Dec.{eqb}
+use borrow.Author.Tests.{eqb-false}
 use lib.ListN.{getD}
 use Rattle.promises.specs.Determined.{Held}
 use Rattle.wire.specs.declared.Halves.{Halves}
@@ -19,28 +20,35 @@ use Rattle.routing.specs.declared.Found.the-variants.{Row as FoundRow, Nothing}
 use Rattle.routing.specs.declared.Refusal.the-variants.{Date as BadDate, Table as BadTable, Bic as BadBic}
 use Rattle.routing.specs.declared.Answer.{Answer as RoutingAnswer}
 use Rattle.routing.specs.declared.Answer.the-variants.{Refused as TurnedAway, Missing, Row}
-use Rattle.sheet.specs.Reading.{CountRead, HeaderRead, MessageRead, shapeOf}
-use Rattle.printing.specs.Writing.{Answered}
+use Rattle.sheet.specs.Reading.{CountRead, HeaderRead, MessageRead, WalkStarted, BulkTaken, shapeOf}
 use Rattle.sheet.specs.declared.Counted.{Counted}
-use Rattle.sheet.specs.declared.Cursor.{Cursor}
 use Rattle.sheet.specs.declared.Header.{Header}
 use Rattle.sheet.specs.declared.Message.{Message}
+use Rattle.sheet.specs.declared.Walk.{Walk}
+use Rattle.sheet.specs.declared.BulkRead.{BulkRead}
 use Rattle.sheet.specs.declared.Shape.{Shape}
 use Rattle.sheet.specs.declared.Shape.the-variants.{Broken, Whole}
-use Rattle.report.specs.Tally.{Totals, centsOf, totalsOf}
-use Rattle.report.specs.Room.{SideTold}
-use Rattle.report.proofs.Cents.{the-row as cents-row}
-use Rattle.report.proofs.Side.{the-row as side-row}
-use Rattle.report.proofs.Tally.{the-row as tally-row}
-use Rattle.report.specs.declared.Cents.{Cents}
-use Rattle.report.specs.declared.Side.{Side}
-use Rattle.report.specs.declared.Tally.{Tally}
-use Rattle.rules.specs.Asked.{wholeOf}
+use Rattle.tally.specs.Tally.{Totals, centsOf, totalsOf}
+use Rattle.tally.specs.Room.{SideTold}
+use Rattle.tally.proofs.Cents.{the-row as cents-row}
+use Rattle.tally.proofs.Side.{the-row as side-row}
+use Rattle.tally.proofs.Tally.{the-row as tally-row}
+use Rattle.tally.specs.declared.Cents.{Cents}
+use Rattle.tally.specs.declared.Side.{Side}
+use Rattle.tally.specs.declared.Tally.{Tally}
+use Rattle.report.specs.Told.{PlacesTold}
+use Rattle.report.specs.declared.Places.{Places}
+use Rattle.refusing.specs.Refusals.{Call, refusalNumber, refusals, firstHolding}
+use Rattle.refusing.specs.Checking.{from, Told as CheckTold}
+use Rattle.refusing.specs.declared.Checked.{Checked}
+use Rattle.refusing.specs.declared.Checked.the-variants.{Stopped, Fine}
+use Rattle.refusing.proofs.Clear.{some-number}
 use Rattle.judging.specs.Outcome.{Outcome, answerNumber, answerLength, left}
-use Rattle.judging.specs.declared.Refusal.the-variants.{Date, Table, Positions, Register, Sheet, Size, Kind, Order, Room, Limit, Space}
+use Rattle.refusing.specs.declared.Refusal.{Refusal}
+use Rattle.refusing.specs.declared.Refusal.the-variants.{Date, Table, Positions, Register, Sheet, Size, Kind, Order, Room, Limit, Space}
 use Rattle.judging.specs.declared.Answer.{Answer}
 use Rattle.judging.specs.declared.Answer.the-variants.{Refused, Judged}
-use Rattle.tynderaxo.specs.Doors.{leftBy, routedBy}
+use Rattle.tynderaxo.specs.Doors.{doorOutcome, routedBy}
 use Rattle.tynderaxo.specs.declared.TynderaxoAnswer.{TynderaxoAnswer}
 use Rattle.tynderaxo.specs.declared.TynderaxoRoute.{TynderaxoRoute}
 
@@ -90,13 +98,41 @@ routed-back (Row i false) = refl
 pub routed-one : {table : List ℕ} {e : Routed} {x y : RoutingAnswer} → AnswerTold table x e → AnswerTold table y e → x ≡ y
 routed-one {x = x} {y = y} p q = sym (routed-back x) ∙ ap routedOf (p .is ∙ sym (q .is)) ∙ routed-back y
 
+-- the refusal of a number: they are numbered from 1 in their order
+refusalOf : ℕ → Refusal
+refusalOf n = getD refusals (n - 1) Date
+
+refusal-back : (r : Refusal) → refusalOf (refusalNumber r) ≡ r
+unfolding refusalOf
+refusal-back Date = refl
+refusal-back Table = refl
+refusal-back Positions = refl
+refusal-back Register = refl
+refusal-back Sheet = refl
+refusal-back Size = refl
+refusal-back Kind = refl
+refusal-back Order = refl
+refusal-back Room = refl
+refusal-back Limit = refl
+refusal-back Space = refl
+
+refusal-one : {r s : Refusal} → refusalNumber r ≡ refusalNumber s → r ≡ s
+refusal-one {r} {s} e = sym (refusal-back r) ∙ ap refusalOf e ∙ refusal-back s
+
+-- what was checked is a refusal, which has a number, or what the sheet holds
+pub checked-one : (first : Refusal) (call : Call) (x y : Checked) → CheckTold first call x → CheckTold first call y → x ≡ y
+checked-one first call (Stopped r) (Stopped s) p q = ap Stopped (refusal-one (sym p ∙ q))
+checked-one first call (Stopped r) (Fine c) p q = absurd (eqb-false (refusalNumber r) 0 (some-number r) (sym p ∙ q .0))
+checked-one first call (Fine c) (Stopped s) p q = absurd (eqb-false (refusalNumber s) 0 (some-number s) (sym q ∙ p .0))
+checked-one first call (Fine c) (Fine d) p q =
+    ap Fine (λ i. record { bulks = (p .1 .bulkCount ∙ sym (q .1 .bulkCount)) i; messages = (p .1 .messageCount ∙ sym (q .1 .messageCount)) i })
+
 answerFrom : ℕ → ℕ → Answer
 answerFrom zero length = Judged length
-answerFrom (suc n) length =
-    Refused (getD (Date ∷ Table ∷ Positions ∷ Register ∷ Sheet ∷ Size ∷ Kind ∷ Order ∷ Room ∷ Limit ∷ Space ∷ []) n Date)
+answerFrom (suc n) length = Refused (refusalOf (suc n))
 
 answer-back : (x : Answer) → answerFrom (answerNumber x) (answerLength x) ≡ x
-unfolding answerFrom
+unfolding answerFrom refusalOf
 answer-back (Refused Date) = refl
 answer-back (Refused Table) = refl
 answer-back (Refused Positions) = refl
@@ -115,9 +151,6 @@ answer-one {x} {y} e e' = sym (answer-back x) ∙ (λ i. answerFrom (e i) (e' i)
 
 -- ---- a struct is its fields
 
-pub place-one : {n : ℕ} {x y : Cursor} → x .at ≡ n → y .at ≡ n → x ≡ y
-place-one p q = λ i. record { at = (p ∙ sym q) i }
-
 pub count-one : {s : List ℕ} {at : ℕ} {x y : Counted} → CountRead s at x → CountRead s at y → x ≡ y
 count-one p q = λ i. record { count = (p .count ∙ sym (q .count)) i; next = record { at = (p .moved ∙ sym (q .moved)) i } }
 
@@ -132,13 +165,33 @@ header-one p q = λ i. record {
   next = record { at = (p .moved ∙ sym (q .moved)) i };
 }
 
-pub message-one : {s : List ℕ} {at : ℕ} {x y : Message} → MessageRead s at x → MessageRead s at y → x ≡ y
+pub message-one : {s : List ℕ} {bulkKind at : ℕ} {x y : Message} → MessageRead s bulkKind at x → MessageRead s bulkKind at y → x ≡ y
 message-one p q = λ i. record {
   at = (p .place ∙ sym (q .place)) i;
+  kind = (p .kind ∙ sym (q .kind)) i;
   amount = (p .amount ∙ sym (q .amount)) i;
   original = (p .original ∙ sym (q .original)) i;
   next = record { at = (p .moved ∙ sym (q .moved)) i };
 }
+
+pub walk-one : {s : List ℕ} {x y : Walk} → WalkStarted s x → WalkStarted s y → x ≡ y
+walk-one p q = λ i. record {
+  heads = record { at = (p .heads ∙ sym (q .heads)) i };
+  bodies = record { at = (p .bodies ∙ sym (q .bodies)) i };
+}
+
+pub bulk-one : {s : List ℕ} {head at : ℕ} {x y : BulkRead} → BulkTaken s head at x → BulkTaken s head at y → x ≡ y
+bulk-one p q = λ i. record {
+  header = header-one (p .header) (q .header) i;
+  section = record { at = (p .first ∙ sym (q .first)) i; number = (p .number ∙ sym (q .number)) i };
+  next = record {
+    heads = record { at = (p .heads ∙ sym (q .heads)) i };
+    bodies = record { at = (p .bodies ∙ sym (q .bodies)) i };
+  };
+}
+
+pub places-one : {line section : ℕ} {x y : Places} → PlacesTold x line section → PlacesTold y line section → x ≡ y
+places-one p q = λ i. record { line = (p .lineIs ∙ sym (q .lineIs)) i; section = (p .sectionIs ∙ sym (q .sectionIs)) i }
 
 -- ---- two halves are their value: the low one is a u64. The long paths lead into what the struct's type holds, to that bound; without
 -- it (0, 2^64) and (1, 0) would stand for one number.
@@ -149,7 +202,7 @@ low-one h h' l l' small small' e = omega arith
 high-one : (h h' l l' : ℕ) → l < 2 ^ 64 → l' < 2 ^ 64 → h * 2 ^ 64 + l ≡ h' * 2 ^ 64 + l' → h ≡ h'
 high-one h h' l l' small small' e = omega arith
 
-pub halves-one : {n : ℕ} {x y : Halves} → Held halves-row x → Held halves-row y → wholeOf x ≡ n → wholeOf y ≡ n → x ≡ y
+pub halves-one : {n : ℕ} {x y : Halves} → Held halves-row x → Held halves-row y → x .0 * 2 ^ 64 + x .1 ≡ n → y .0 * 2 ^ 64 + y .1 ≡ n → x ≡ y
 halves-one {x = x} {y = y} p q t t' = λ i. record {
   0 = high-one (x .0) (y .0) (x .1) (y .1) (p .1 .1 .1 .1 .0 .1) (q .1 .1 .1 .1 .0 .1) (t ∙ sym t') i;
   1 = low-one (x .0) (y .0) (x .1) (y .1) (p .1 .1 .1 .1 .0 .1) (q .1 .1 .1 .1 .0 .1) (t ∙ sym t') i;
@@ -198,13 +251,21 @@ outcomes x y p q = λ j i. record {
   report = List·isSet ℕ-set (x .report) (y .report) (λ k. p k .report) (λ k. q k .report) j i;
 }
 
--- what a judging call leaves: nothing of the date, the sheet and the table, and the bytes of register, positions and report
+-- what a judging call leaves: nothing of the terms, the sheet and the table, and the bytes of register, positions and report
 abbrev Left : Type 0
 Left = Unit {0} × (Unit {0} × (Unit {0} × (List ℕ × (List ℕ × (List ℕ × Unit {0})))))
 
 left-one : {ws ws' : Left} → ws .1 .1 .1 .0 ≡ ws' .1 .1 .1 .0 → ws .1 .1 .1 .1 .0 ≡ ws' .1 .1 .1 .1 .0
     → ws .1 .1 .1 .1 .1 .0 ≡ ws' .1 .1 .1 .1 .1 .0 → ws ≡ ws'
 left-one p q e = λ i. (tt, (tt, (tt, (p i, (q i, (e i, tt))))))
+
+-- what the judgement of a bulk's messages leaves, of its eight arguments
+abbrev MessagesLeft : Type 0
+MessagesLeft = Unit {0} × (Unit {0} × (Unit {0} × (List ℕ × (List ℕ × (List ℕ × (Unit {0} × (Unit {0} × Unit {0})))))))
+
+pub messages-left : (ws ws' : MessagesLeft) → ws .1 .1 .1 .0 ≡ ws' .1 .1 .1 .0 → ws .1 .1 .1 .1 .0 ≡ ws' .1 .1 .1 .1 .0
+    → ws .1 .1 .1 .1 .1 .0 ≡ ws' .1 .1 .1 .1 .1 .0 → ws ≡ ws'
+messages-left ws ws' p q e = λ i. (tt, (tt, (tt, (p i, (q i, (e i, (tt, (tt, tt))))))))
 
 -- the outcomes that two answers and what they leave make up
 module _ (ws ws' : Left) where
@@ -217,20 +278,11 @@ module _ (ws ws' : Left) where
     left-one {ws = ws} {ws' = ws'} (λ i. e i .register) (λ i. e i .positions) (λ i. e i .report),
   )
 
-  pub door-one : {x y : TynderaxoAnswer} → outcomeOf ws (leftBy x) ≡ outcomeOf ws' (leftBy y) → (x ≡ y) × (ws ≡ ws')
+  pub door-one : {x y : TynderaxoAnswer} → outcomeOf ws (doorOutcome x) ≡ outcomeOf ws' (doorOutcome y) → (x ≡ y) × (ws ≡ ws')
   door-one e = (
     λ i. record { number = e i .number; length = e i .length },
     left-one {ws = ws} {ws' = ws'} (λ i. e i .register) (λ i. e i .positions) (λ i. e i .report),
   )
-
--- ---- a printed answer: how many bytes were written, and the buffer
-
-module _ {before after after' text : List ℕ} {n n' : ℕ} where
-  pub written-one : Answered before after n text → Answered before after' n' text → n ≡ n'
-  written-one p q = p .printed .place ∙ sym (q .printed .place)
-
-  pub printed-one : Answered before after n text → Answered before after' n' text → after ≡ after'
-  printed-one p q = p .printed .bytes ∙ sym (q .printed .bytes)
 
 -- ---- the route that the door for C hands over is the four values of the lookup
 pub way-one : {e : Routed} {x y : TynderaxoRoute} → routedBy x ≡ e → routedBy y ≡ e → x ≡ y

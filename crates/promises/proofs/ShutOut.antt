@@ -1,7 +1,7 @@
 -- Each wrong judge is shut out by a statement: were the statement true of it, there would be a contradiction on a small file, most
 -- often that 0 is 1. Assumes nothing.
 use mathlib.Core.Path.{_≡_, refl, sym, ap, _∙_}
-use mathlib.Core.Bool.{Bool, true, _&&_, and-eq-true-iff}
+use mathlib.Core.Bool.{Bool, true, _&&_, false≢true, and-eq-true-iff}
 use mathlib.Core.List.{List, [], _∷_, _++_}
 use Prim.Native.Nat.{ℕ, zero, suc, _-_, _/_}
 use Prim.Native.String.{String}
@@ -10,25 +10,30 @@ use lib.Dec.{lit<, lit≤, ltb}
 use lib.IntN.{ℤ, natAbs}
 use lib.ListN.{length, getD, replicate}
 use borrow.Author.Tests.{ltb-true}
-use Rattle.wire.specs.Field.{Bytes, text, bytesOf, numberFrom, same}
+use Rattle.wire.specs.Field.{Bytes, text, bytesOf, numberAt, numberFrom, same}
 use Rattle.wire.specs.Places.{firstFrom, everyFrom}
 use Rattle.calendar.specs.Date.{isDate, daysIn, leap}
 use Rattle.routing.specs.Table.{wellFormed, kindsKnown}
 use Rattle.routing.specs.Lookup.{rowOf, route}
-use Rattle.register.specs.Register.{entry, bulkTag, used, entriesTo, search, stands, add, wellFormed as registerFormed}
+use Rattle.register.specs.Register.{key, bulkTag, tagPlace, entry, used, entriesTo, search, stands, add, wellFormed as registerFormed}
 use Rattle.positions.specs.Positions.{roomForAll, gains, loses}
-use Rattle.sheet.specs.Sheet.{recordsAt, bulksFrom, endFrom, messagesFrom, whole, shape, mixed, kindsKnown as sheetKinds}
+use Rattle.sheet.specs.Sheet.{identifierWidth, messageWidth, recordsAt, bulksFrom, endFrom, messagesFrom, whole, shape, mixed, kindsKnown as sheetKinds}
 use Rattle.wording.specs.Wording.{among, allowed, kept, formed, badlyFormed, bicFormed, blank, oneOf}
-use Rattle.rules.specs.Facts.{mask, bulkFaults, messageFaults}
-use Rattle.report.specs.Line.{bulkLine, messageLine}
-use Rattle.judging.specs.Judgement.{State, sumOf, afterMessage, lineOf, counted, judgeMessages, bulkLineOf, sectionOf, afterBulk, judgeBulks}
-use Rattle.judging.specs.Refusals.{Call, holds, firstHolding, refusal}
+use Rattle.rules.specs.declared.Terms.{Terms}
+use Rattle.rules.specs.Terms.{dated}
+use Rattle.masks.specs.Mask.{mask}
+use Rattle.faults.specs.Bits.{sumWrongBit}
+use Rattle.faults.specs.Faults.{bulkFaults, messageFaults}
+use Rattle.report.specs.Line.{messageLineWidth, bulkLineWidth, bulkLine, messageLine}
+use Rattle.messages.specs.Messages.{State, sumOf, afterMessage, lineOf, counted, judgeMessages}
+use Rattle.judging.specs.Judgement.{bulkLineOf, sectionOf, afterBulk, judgeBulks}
+use Rattle.refusing.specs.Refusals.{Call, holds, firstHolding, refusal}
 use Rattle.judging.specs.Outcome.{outcome}
-use Rattle.promises.specs.Reading.{InBytes, acceptedOf, acceptedFrom, accepted}
-use Rattle.promises.specs.Demands.{BulksTell, MessagesTell, centsOf}
-use Rattle.promises.specs.Runs.{File, run, NoneLike, NoneTwice, withMessageTag, AllStand, centsTo, centsFrom}
+use Rattle.promises.specs.Reading.{InBytes, acceptedOf, acceptedFrom, accepted, recordedFrom, recorded, withKeys, centsTo, centsFrom}
+use Rattle.promises.specs.Demands.{BulksTell, MessagesTell, centsPaid}
+use Rattle.promises.specs.Runs.{File, run, NoneLike, NoneTwice, withMessageTag, AllStand}
 use Rattle.promises.specs.Edges.{padded, row}
-use Rattle.promises.specs.Wrong.{refusesAll, writesOnRefusal, oneFixedReport, writesNothing, copiesTheFirstLine, makesUpTheNumber, hidesBesideARepeat, dropsALine, copiesTheFirstFile, recordsTheFallen, recordsNothing, movesTheStatedSum, ShutOut}
+use Rattle.promises.specs.Wrong.{refusesAll, writesOnRefusal, oneFixedReport, writesNothing, copiesTheFirstLine, makesUpTheNumber, hidesBesideARepeat, dropsALine, copiesTheFirstFile, recordsTheFallen, recordsNothing, movesTheStatedSum, bulksFirst, ShutOut}
 
 -- ---- bytes, by a test
 
@@ -46,10 +51,10 @@ bytes-by (x ∷ xs) e (suc i) = bytes-by xs (and-eq-true-iff (ltb x 256) (allByt
 
 abbrev header : String → ℕ → ℕ → List ℕ
 header identifier number sum =
-    bytesOf 1 1 ++ padded 35 identifier ++ text "AAAALV22" ++ bytesOf 8 number ++ bytesOf 8 sum ++ bytesOf 4 20260615 ++ bytesOf 1 3
+    bytesOf 1 1 ++ padded identifierWidth identifier ++ text "AAAALV22" ++ bytesOf 8 number ++ bytesOf 8 sum ++ bytesOf 4 20260615 ++ bytesOf 1 3
 
 abbrev message : String → ℕ → List ℕ
-message identifier amount = padded 35 identifier ++ text "BBBBLV22XXX" ++ bytesOf 8 amount ++ bytesOf 8 0 ++ padded 19 ""
+message identifier amount = padded identifierWidth identifier ++ text "BBBBLV22XXX" ++ bytesOf 8 amount ++ bytesOf 8 0 ++ padded 19 ""
 
 -- one bulk of one message
 abbrev one : List ℕ
@@ -75,6 +80,9 @@ partial = bytesOf 4 1 ++ header "D1" 2 2 ++ bytesOf 4 2 ++ message "T1" 1 ++ mes
 abbrev two : List ℕ
 two = bytesOf 4 2 ++ header "D1" 1 1 ++ header "D2" 1 2 ++ bytesOf 4 1 ++ message "T1" 1 ++ bytesOf 4 1 ++ message "T2" 1
 
+abbrev today : Terms
+today = dated 20260615
+
 abbrev table : List ℕ
 table = bytesOf 4 2 ++ row "AAAALV22XXX" ++ row "BBBBLV22XXX"
 
@@ -86,16 +94,16 @@ start = record { register = empty; positions = replicate 16 0 }
 
 abbrev callOn : List ℕ → Call
 callOn sheet =
-    record { date = 20260615; sheet = sheet; table = table; register = empty; positions = replicate 16 0; report = replicate 300 0 }
+    record { terms = today; sheet = sheet; table = table; register = empty; positions = replicate 16 0; report = replicate 300 0 }
 
 -- the bulk D1 stands in the register
 abbrev repeated : Call
 repeated =
     record {
-      date = 20260615;
+      terms = today;
       sheet = fallen;
       table = table;
-      register = bytesOf 4 1 ++ entry (text "AAAALV22") (padded 35 "D1") bulkTag ++ replicate 176 0;
+      register = bytesOf 4 1 ++ key (text "AAAALV22") (padded identifierWidth "D1") bulkTag ++ replicate 176 0;
       positions = replicate 16 0;
       report = replicate 300 0;
     }
@@ -129,11 +137,15 @@ repeated-in-bytes =
       report = bytes-by (replicate 300 0) refl;
     }
 
+-- the tag of the first entry
+abbrev tagOf : List (List ℕ) → ℕ
+tagOf es = numberAt (getD es 0 []) tagPlace 1
+
 zero-is-one : _≡_ {A = ℕ} 0 1 → ⊥
 zero-is-one e = omega arith
 
 pub shut-out : ShutOut
-unfolding allBytes bytesOf numberFrom same firstFrom everyFrom isDate daysIn leap wellFormed kindsKnown rowOf route entriesTo search stands add registerFormed roomForAll gains loses recordsAt bulksFrom endFrom messagesFrom whole shape mixed sheetKinds among allowed kept formed badlyFormed bicFormed blank oneOf mask bulkFaults messageFaults bulkLine messageLine sumOf afterMessage lineOf counted judgeMessages bulkLineOf sectionOf afterBulk judgeBulks holds firstHolding refusal outcome acceptedOf acceptedFrom accepted BulksTell MessagesTell centsOf run NoneLike NoneTwice withMessageTag AllStand centsTo centsFrom
+unfolding allBytes bytesOf numberFrom same firstFrom everyFrom isDate daysIn leap wellFormed kindsKnown rowOf route entry entriesTo search stands add registerFormed roomForAll gains loses messageWidth recordsAt bulksFrom endFrom messagesFrom whole shape mixed sheetKinds among allowed kept formed badlyFormed bicFormed blank oneOf mask bulkFaults messageFaults messageLineWidth bulkLine messageLine sumOf afterMessage lineOf counted judgeMessages bulkLineOf sectionOf afterBulk judgeBulks holds firstHolding refusal outcome acceptedOf acceptedFrom accepted recordedFrom recorded withKeys bulksFirst BulksTell MessagesTell centsPaid run NoneLike NoneTwice withMessageTag AllStand centsTo centsFrom
 shut-out =
     record {
       tellsNothing = λ s. zero-is-one (s (callOn one) (in-bytes one refl) refl .count);
@@ -145,14 +157,19 @@ shut-out =
       writesNothing = λ s. zero-is-one (s (callOn one) (in-bytes one refl) refl .count);
       copiesTheFirstLine = λ s. zero-is-one (sym (s (callOn two) (in-bytes two refl) refl .bulks .1 .0 .acceptedNumber));
       makesUpTheNumber = λ s. zero-is-one (ap (λ (n : ℕ). 2 - n) (s (callOn partial) (in-bytes partial refl) refl .bulks .0 .acceptedNumber));
-      hidesBesideARepeat = λ s. zero-is-one (s repeated repeated-in-bytes refl .bulks .0 .faults 7);
-      writesPastTheReport = λ s. zero-is-one (sym (ap (λ (r : List ℕ). getD r 0 0) (s (callOn one) refl .laterBytes)));
+      hidesBesideARepeat = λ s. false≢true (s repeated repeated-in-bytes refl .bulks .0 .faults sumWrongBit);
+      leavesNoBulk = λ s. zero-is-one (ap (λ (n : ℕ). n - 1) (s (callOn one) (in-bytes one refl) refl .number));
+      leavesTheBulkFirst = λ s. zero-is-one (ap (λ (es : List (List ℕ)). 2 - tagOf es) (s (callOn one) (in-bytes one refl) refl .entries));
+      writesPastTheEntries = λ s. zero-is-one (sym (ap (λ (e : List ℕ). getD e 0 0) (s (callOn one) (in-bytes one refl) refl .laterPlaces 2 (lit≤ tt))));
+      writesPastTheReport = λ s. zero-is-one (sym (ap (λ (r : List ℕ). getD r 0 0) (s (callOn one) (in-bytes one refl) refl .laterBytes)));
       dropsALine = λ s.
-          zero-is-one (ap (λ (l : List ℕ). (length l - 64) / 64) (s (callOn two) (in-bytes two refl) refl 1 (lit≤ tt) (replicate 300 0) (replicate 300 0) (lit≤ tt) (lit≤ tt) .bulkLines));
+          zero-is-one (ap (λ (l : List ℕ). (length l - bulkLineWidth) / bulkLineWidth) (s (callOn two) (in-bytes two refl) refl 1 (lit≤ tt) (replicate 300 0) (replicate 300 0) (lit≤ tt) (lit≤ tt) .bulkLines));
       forgetsALoneBulk = λ s.
           zero-is-one (ap (λ (r : List ℕ). (used r - 2) / 2) (s (callOn both) (in-bytes both refl) refl 1 (lit≤ tt) (replicate 300 0) (replicate 300 0) (lit≤ tt) (lit≤ tt) .register));
-      copiesTheFirstFile = (outcome (callOn one) .report, λ s. s 20260615 table start (file one ∷ file one ∷ []) no-cents .once .0 .0 (refl, refl));
-      recordsTheFallen = λ s. zero-is-one (sym (ap length (s 20260615 table start (file fallen ∷ []) no-cents .recorded)));
-      recordsNothing = λ s. zero-is-one (ap length (s 20260615 table start (file one ∷ []) no-cents .recorded));
-      movesTheStatedSum = λ s. zero-is-one (ap (λ (k : ℤ). 2 - natAbs k) (s 20260615 table start (file partial ∷ []) no-cents .positions 1));
+      copiesTheFirstFile = (callOn one, (refl, λ s. s today table start (file one ∷ file one ∷ []) no-cents .once .0 .0 (refl, refl)));
+      recordsTheFallen = λ s. zero-is-one (sym (ap length (s today table start (file fallen ∷ []) no-cents .messages)));
+      recordsNothing = λ s. zero-is-one (ap length (s today table start (file one ∷ []) no-cents .messages));
+      recordsNoBulk = λ s. zero-is-one (ap (λ (es : List (List ℕ)). length es - 1) (s today table start (file one ∷ []) no-cents .recorded));
+      recordsTheBulkFirst = λ s. zero-is-one (ap (λ (es : List (List ℕ)). 2 - tagOf es) (s today table start (file one ∷ []) no-cents .recorded));
+      movesTheStatedSum = λ s. zero-is-one (ap (λ (k : ℤ). 2 - natAbs k) (s today table start (file partial ∷ []) no-cents .positions 1));
     }

@@ -27,6 +27,15 @@ module _ {M : Type 1} (𝓤 : URA M) where
   unfolding sProp·Sat
   used prop f s = ∥∥₁-elim s prop (λ t. ∥∥₁-elim (t .1) prop (λ u. f (u .0)))
 
+  -- what holds may be told
+  pub tell : {φ : Type 0} → φ → Told φ
+  unfolding sProp·Sat
+  tell p = ∣ (𝓤 .one, ∣ (p, tt) ∣₁) ∣₁
+
+  -- a proposition that is told holds
+  pub taken : {φ : Type 0} → IsProp φ → Told φ → φ
+  taken prop h = used prop (λ p. p) h
+
   -- two values, where what is told of the one and of the other makes them equal
   pub both : {X : Type 0} → IsSet X → {φ φ' : Type 0} {x x' : X} → (φ → φ' → x ≡ x') → Told φ → Told φ' → x ≡ x'
   both set {x = x} {x' = x'} f h h' = used (set x x') (λ p. used (set x x') (λ p'. f p p') h') h

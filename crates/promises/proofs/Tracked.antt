@@ -9,29 +9,30 @@ use lib.Dec.{eqb}
 use lib.IntN.{ℤ, pos, negℤ, _+ℤ_, _-ℤ_, +ℤ-assoc, +ℤ-comm, +ℤ-idr, pos-+ℤ-pos, negℤ-+ℤ}
 use Rattle.wire.specs.Field.{same, numberAt}
 use Rattle.wire.proofs.Texts.{same-itself}
-use Rattle.register.specs.Register.{entry, messageTag, tagPlace, entriesOf, listed, stands}
+use Rattle.register.specs.Register.{key, messageTag, tagPlace, keysOf, listed, stands}
 use Rattle.register.proofs.Laws.{stands-listed}
 use Rattle.positions.specs.Positions.{positionAt, signed}
-use Rattle.judging.specs.Judgement.{State}
-use Rattle.promises.specs.Reading.{Payment}
-use Rattle.promises.specs.Runs.{SamePayment, NoneLike, NoneTwice, entryOf, withMessageTag, messageEntries, AllStand, toRow, fromRow, centsTo, centsFrom}
+use Rattle.rules.specs.declared.Terms.{Terms}
+use Rattle.messages.specs.Messages.{State}
+use Rattle.promises.specs.Reading.{Payment, keyOf, toRow, fromRow, centsTo, centsFrom}
+use Rattle.promises.specs.Runs.{SamePayment, NoneLike, NoneTwice, withMessageTag, messageKeys, AllStand}
 
 -- ---- cents add up
 
-module _ (date : ℕ) (table : List ℕ) (j : ℕ) where
-  to-append : (ps qs : List Payment) → centsTo date table j (ps ++ qs) ≡ centsTo date table j ps + centsTo date table j qs
+module _ (terms : Terms) (table : List ℕ) (j : ℕ) where
+  to-append : (ps qs : List Payment) → centsTo terms table j (ps ++ qs) ≡ centsTo terms table j ps + centsTo terms table j qs
   unfolding centsTo
-  to-append [] qs = sym (zero-add (centsTo date table j qs))
+  to-append [] qs = sym (zero-add (centsTo terms table j qs))
   to-append (p ∷ ps) qs =
-      ap (λ (n : ℕ). cond (toRow date table j p) (p .cents) 0 + n) (to-append ps qs)
-      ∙ sym (add-assoc (cond (toRow date table j p) (p .cents) 0) (centsTo date table j ps) (centsTo date table j qs))
+      ap (λ (n : ℕ). cond (toRow terms table j p) (p .cents) 0 + n) (to-append ps qs)
+      ∙ sym (add-assoc (cond (toRow terms table j p) (p .cents) 0) (centsTo terms table j ps) (centsTo terms table j qs))
 
-  from-append : (ps qs : List Payment) → centsFrom date table j (ps ++ qs) ≡ centsFrom date table j ps + centsFrom date table j qs
+  from-append : (ps qs : List Payment) → centsFrom terms table j (ps ++ qs) ≡ centsFrom terms table j ps + centsFrom terms table j qs
   unfolding centsFrom
-  from-append [] qs = sym (zero-add (centsFrom date table j qs))
+  from-append [] qs = sym (zero-add (centsFrom terms table j qs))
   from-append (p ∷ ps) qs =
-      ap (λ (n : ℕ). cond (fromRow date table j p) (p .cents) 0 + n) (from-append ps qs)
-      ∙ sym (add-assoc (cond (fromRow date table j p) (p .cents) 0) (centsFrom date table j ps) (centsFrom date table j qs))
+      ap (λ (n : ℕ). cond (fromRow terms table j p) (p .cents) 0 + n) (from-append ps qs)
+      ∙ sym (add-assoc (cond (fromRow terms table j p) (p .cents) 0) (centsFrom terms table j ps) (centsFrom terms table j qs))
 
 -- two moves one after the other, as one
 moved-twice : (x : ℤ) (a b c d : ℕ) → x +ℤ pos a -ℤ pos b +ℤ pos c -ℤ pos d ≡ x +ℤ pos (a + c) -ℤ pos (b + d)
@@ -46,7 +47,7 @@ moved-twice x a b c d =
     ∙ +ℤ-assoc (x +ℤ pos a +ℤ pos c) from from'
     ∙ ap₂ (λ (k l : ℤ). k +ℤ l) (+ℤ-assoc x (pos a) (pos c) ∙ ap (λ (k : ℤ). x +ℤ k) (pos-+ℤ-pos a c)) less
 
--- ---- lists of entries
+-- ---- lists of keys
 
 pub tag-append : (xs ys : List (List ℕ)) → withMessageTag (xs ++ ys) ≡ withMessageTag xs ++ withMessageTag ys
 unfolding withMessageTag
@@ -86,78 +87,78 @@ not-listed xs e h = by-test (listed (withMessageTag xs) e) refl
 
 -- ---- none was there before
 
--- each of them is none of the entries es, nor of those of the payments before it
+-- each of their keys is none of the keys ks, nor of those of the payments before it
 unfoldable pub Fresh : List (List ℕ) → List Payment → Type 0
-Fresh es [] = Unit {0}
-Fresh es (p ∷ ps) = (listed es (entryOf p) ≡ false) × Fresh (es ++ (entryOf p ∷ [])) ps
+Fresh ks [] = Unit {0}
+Fresh ks (p ∷ ps) = (listed ks (keyOf p) ≡ false) × Fresh (ks ++ (keyOf p ∷ [])) ps
 
-fresh-append : (es : List (List ℕ)) (ps qs : List Payment) → Fresh es ps → Fresh (es ++ map entryOf ps) qs → Fresh es (ps ++ qs)
+fresh-append : (ks : List (List ℕ)) (ps qs : List Payment) → Fresh ks ps → Fresh (ks ++ map keyOf ps) qs → Fresh ks (ps ++ qs)
 unfolding Fresh
-fresh-append es [] qs f g = rw (append-nil es) at g
-fresh-append es (p ∷ ps) qs f g =
-    (f .0, fresh-append (es ++ (entryOf p ∷ [])) ps qs (f .1) (rw (append-assoc es (entryOf p ∷ []) (map entryOf ps)) g))
+fresh-append ks [] qs f g = rw (append-nil ks) at g
+fresh-append ks (p ∷ ps) qs f g =
+    (f .0, fresh-append (ks ++ (keyOf p ∷ [])) ps qs (f .1) (rw (append-assoc ks (keyOf p ∷ []) (map keyOf ps)) g))
 
 -- so none of them is like another
-none-like : (es : List (List ℕ)) (p : Payment) (ps : List Payment) → listed es (entryOf p) ≡ true → Fresh es ps → NoneLike p ps
+none-like : (ks : List (List ℕ)) (p : Payment) (ps : List Payment) → listed ks (keyOf p) ≡ true → Fresh ks ps → NoneLike p ps
 unfolding Fresh NoneLike
-none-like es p [] there f = tt
-none-like es p (q ∷ qs) there f = (
+none-like ks p [] there f = tt
+none-like ks p (q ∷ qs) there f = (
   (λ (alike : SamePayment p q).
-      let equal : entryOf p ≡ entryOf q = ap₂ (λ (x y : List ℕ). entry x y messageTag) (alike .0) (alike .1) in
+      let equal : keyOf p ≡ keyOf q = ap₂ (λ (x y : List ℕ). key x y messageTag) (alike .0) (alike .1) in
       false≢true (sym (f .0) ∙ (rw (← equal) there))),
-  none-like (es ++ (entryOf q ∷ [])) p qs (rw (listed-append es (entryOf q ∷ []) (entryOf p), there)) (f .1),
+  none-like (ks ++ (keyOf q ∷ [])) p qs (rw (listed-append ks (keyOf q ∷ []) (keyOf p), there)) (f .1),
 )
 
-pub none-twice : (es : List (List ℕ)) (ps : List Payment) → Fresh es ps → NoneTwice ps
+pub none-twice : (ks : List (List ℕ)) (ps : List Payment) → Fresh ks ps → NoneTwice ps
 unfolding Fresh NoneTwice listed
-none-twice es [] f = tt
-none-twice es (p ∷ ps) f = (
-  none-like (es ++ (entryOf p ∷ [])) p ps (rw (listed-append es (entryOf p ∷ []) (entryOf p), same-itself (entryOf p)) (or-true (listed es (entryOf p)))) (f .1),
-  none-twice (es ++ (entryOf p ∷ [])) ps (f .1),
+none-twice ks [] f = tt
+none-twice ks (p ∷ ps) f = (
+  none-like (ks ++ (keyOf p ∷ [])) p ps (rw (listed-append ks (keyOf p ∷ []) (keyOf p), same-itself (keyOf p)) (or-true (listed ks (keyOf p)))) (f .1),
+  none-twice (ks ++ (keyOf p ∷ [])) ps (f .1),
 )
 
 -- each stands in a register that lists them all
-pub all-stand-from : (register : List ℕ) (es : List (List ℕ)) (ps : List Payment) → messageEntries register ≡ es ++ map entryOf ps → AllStand register ps
+pub all-stand-from : (register : List ℕ) (ks : List (List ℕ)) (ps : List Payment) → messageKeys register ≡ ks ++ map keyOf ps → AllStand register ps
 unfolding AllStand listed
-all-stand-from register es [] e = tt
-all-stand-from register es (p ∷ ps) e = (
-  stands-listed register (entryOf p)
-      ∙ tag-listed (entriesOf register) (entryOf p)
-      (rw (e, listed-append es (entryOf p ∷ map entryOf ps) (entryOf p), same-itself (entryOf p)) (or-true (listed es (entryOf p)))),
-  all-stand-from register (es ++ (entryOf p ∷ [])) ps (e ∙ sym (append-assoc es (entryOf p ∷ []) (map entryOf ps))),
+all-stand-from register ks [] e = tt
+all-stand-from register ks (p ∷ ps) e = (
+  stands-listed register (keyOf p)
+      ∙ tag-listed (keysOf register) (keyOf p)
+      (rw (e, listed-append ks (keyOf p ∷ map keyOf ps) (keyOf p), same-itself (keyOf p)) (or-true (listed ks (keyOf p)))),
+  all-stand-from register (ks ++ (keyOf p ∷ [])) ps (e ∙ sym (append-assoc ks (keyOf p ∷ []) (map keyOf ps))),
 )
 
 -- ---- from one state to another
 
-module _ (date : ℕ) (table : List ℕ) where
+module _ (terms : Terms) (table : List ℕ) where
   pub record Tracked (before after : State) (ps : List Payment) : Type 0 where
-    pub fresh : Fresh (messageEntries (before .register)) ps
-    pub recorded : messageEntries (after .register) ≡ messageEntries (before .register) ++ map entryOf ps
+    pub fresh : Fresh (messageKeys (before .register)) ps
+    pub recorded : messageKeys (after .register) ≡ messageKeys (before .register) ++ map keyOf ps
     pub positions : (j : ℕ)
         → signed (positionAt (after .positions) j)
-        ≡ signed (positionAt (before .positions) j) +ℤ pos (centsTo date table j ps) -ℤ pos (centsFrom date table j ps)
+        ≡ signed (positionAt (before .positions) j) +ℤ pos (centsTo terms table j ps) -ℤ pos (centsFrom terms table j ps)
 
   pub tracked-none : (st : State) → Tracked st st []
   unfolding Fresh centsTo centsFrom
   tracked-none st =
       record {
         fresh = tt;
-        recorded = sym (append-nil (messageEntries (st .register)));
+        recorded = sym (append-nil (messageKeys (st .register)));
         positions = λ j. sym (+ℤ-idr (signed (positionAt (st .positions) j) +ℤ pos 0) ∙ +ℤ-idr (signed (positionAt (st .positions) j)));
       }
 
   pub tracked-then : (a b c : State) (ps qs : List Payment) → Tracked a b ps → Tracked b c qs → Tracked a c (ps ++ qs)
   tracked-then a b c ps qs f g =
       record {
-        fresh = fresh-append (messageEntries (a .register)) ps qs (f .fresh) (rw (f .recorded) at (g .fresh));
+        fresh = fresh-append (messageKeys (a .register)) ps qs (f .fresh) (rw (f .recorded) at (g .fresh));
         recorded =
             g .recorded
-            ∙ ap (λ (es : List (List ℕ)). es ++ map entryOf qs) (f .recorded)
-            ∙ append-assoc (messageEntries (a .register)) (map entryOf ps) (map entryOf qs)
-            ∙ ap (λ (es : List (List ℕ)). messageEntries (a .register) ++ es) (sym (map-append entryOf ps qs));
+            ∙ ap (λ (ks : List (List ℕ)). ks ++ map keyOf qs) (f .recorded)
+            ∙ append-assoc (messageKeys (a .register)) (map keyOf ps) (map keyOf qs)
+            ∙ ap (λ (ks : List (List ℕ)). messageKeys (a .register) ++ ks) (sym (map-append keyOf ps qs));
         positions = λ j.
             g .positions j
-            ∙ ap (λ (k : ℤ). k +ℤ pos (centsTo date table j qs) -ℤ pos (centsFrom date table j qs)) (f .positions j)
-            ∙ moved-twice (signed (positionAt (a .positions) j)) (centsTo date table j ps) (centsFrom date table j ps) (centsTo date table j qs) (centsFrom date table j qs)
-            ∙ ap₂ (λ (t u : ℕ). signed (positionAt (a .positions) j) +ℤ pos t -ℤ pos u) (sym (to-append date table j ps qs)) (sym (from-append date table j ps qs));
+            ∙ ap (λ (k : ℤ). k +ℤ pos (centsTo terms table j qs) -ℤ pos (centsFrom terms table j qs)) (f .positions j)
+            ∙ moved-twice (signed (positionAt (a .positions) j)) (centsTo terms table j ps) (centsFrom terms table j ps) (centsTo terms table j qs) (centsFrom terms table j qs)
+            ∙ ap₂ (λ (t u : ℕ). signed (positionAt (a .positions) j) +ℤ pos t -ℤ pos u) (sym (to-append terms table j ps qs)) (sym (from-append terms table j ps qs));
       }

@@ -4,9 +4,9 @@ use mathlib.Core.Path.{_≡_}
 use mathlib.Core.List.{List, _++_}
 use lib.ListN.{length, drop}
 use Rattle.wire.specs.Field.{part, bytesOf}
-use Rattle.sheet.specs.Sheet.{headerWidth, bulkCount, messageCount, firstSection, endFrom}
+use Rattle.sheet.specs.Sheet.{countWidth, headerWidth, bulkCount, messageCount, firstSection, endFrom}
 use Rattle.report.specs.Line.{reportLength}
-use Rattle.judging.specs.Refusals.{Call, refusal}
+use Rattle.refusing.specs.Refusals.{Call, refusal}
 use Rattle.judging.specs.Outcome.{Outcome}
 use Rattle.promises.specs.Reading.{Judge, InBytes, bulkLines, messageLines}
 
@@ -14,28 +14,28 @@ use Rattle.promises.specs.Reading.{Judge, InBytes, bulkLines, messageLin
 
 -- where the sections of the first k bulks end
 abbrev pub cutPlace : List ℕ → ℕ → ℕ
-cutPlace sheet k = endFrom sheet k (firstSection sheet)
+cutPlace sheet k = endFrom sheet k countWidth (firstSection sheet)
 
 -- the first k bulks: their number, their headers, their sections
 abbrev pub firstPart : List ℕ → ℕ → List ℕ
 firstPart sheet k =
-    bytesOf 4 k
-    ++ part sheet 4 (headerWidth * k)
+    bytesOf countWidth k
+    ++ part sheet countWidth (headerWidth * k)
     ++ part sheet (firstSection sheet) (cutPlace sheet k - firstSection sheet)
 
 -- the others
 abbrev pub secondPart : List ℕ → ℕ → List ℕ
 secondPart sheet k =
-    bytesOf 4 (bulkCount sheet - k)
-    ++ part sheet (4 + headerWidth * k) (headerWidth * (bulkCount sheet - k))
+    bytesOf countWidth (bulkCount sheet - k)
+    ++ part sheet (countWidth + headerWidth * k) (headerWidth * (bulkCount sheet - k))
     ++ drop (cutPlace sheet k) sheet
 
--- ---- judged one after the other, on the same date and table
+-- ---- judged one after the other, on the same terms and table
 
 abbrev pub firstCall : Call → ℕ → List ℕ → Call
 firstCall call k space =
     record {
-      date = call .date;
+      terms = call .terms;
       sheet = firstPart (call .sheet) k;
       table = call .table;
       register = call .register;
@@ -47,7 +47,7 @@ firstCall call k space =
 abbrev pub secondCall : Call → ℕ → Outcome → List ℕ → Call
 secondCall call k left space =
     record {
-      date = call .date;
+      terms = call .terms;
       sheet = secondPart (call .sheet) k;
       table = call .table;
       register = left .register;

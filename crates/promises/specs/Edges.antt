@@ -1,12 +1,16 @@
 -- The values at the edges that the scope marks for proof: calls, what of their outcome is looked at, and what it must be. Assumes nothing.
-use Prim.Native.Nat.{ℕ, _-_}
+use Prim.Native.Nat.{ℕ, _-_, _*_}
 use Prim.Native.String.{String}
 use mathlib.Core.List.{List, [], _∷_, _++_}
 use lib.ListN.{length, replicate}
-use Rattle.wire.specs.Field.{text, bytesOf, numberAt}
-use Rattle.register.specs.Register.{entry, bulkTag}
-use Rattle.judging.specs.Refusals.{Call}
+use Rattle.wire.specs.Field.{text, bytesOf}
+use Rattle.sheet.specs.Sheet.{identifierWidth, reasonWidth, nameWidth, paymentKind, returnKind}
+use Rattle.register.specs.Register.{key, entryWidth, entry, bulkTag}
+use Rattle.rules.specs.Terms.{dated}
+use Rattle.report.specs.Line.{faultsIn, firstLine, sectionsPlace, linesAt}
+use Rattle.refusing.specs.Refusals.{Call}
 use Rattle.judging.specs.Outcome.{Outcome}
+use Rattle.promises.specs.Reading.{bulkLineFrom, messageLineFrom}
 
 -- ---- a call of one bulk that holds one message
 
@@ -26,39 +30,40 @@ pub record Case : Type 0 where
   pub original : ℕ
   pub reason : String
   pub name : String
-  -- the entries in use
+  -- the keys of the entries in use
   pub used : List (List ℕ)
 
+-- their entries, one after the other
 abbrev pub joined : List (List ℕ) → List ℕ
 joined [] = []
-joined (e ∷ es) = e ++ joined es
+joined (k ∷ ks) = entry k ++ joined ks
 
 abbrev pub sheetOf : Case → List ℕ
 sheetOf c =
     bytesOf 4 1
     ++ bytesOf 1 (c .kind)
-    ++ padded 35 "D1"
+    ++ padded identifierWidth "D1"
     ++ text "AAAALV22"
     ++ bytesOf 8 1
     ++ bytesOf 8 (c .statedSum)
     ++ bytesOf 4 (c .date)
     ++ bytesOf 1 3
     ++ bytesOf 4 1
-    ++ padded 35 (c .identifier)
+    ++ padded identifierWidth (c .identifier)
     ++ text "BBBBLV22XXX"
     ++ bytesOf 8 (c .amount)
     ++ bytesOf 8 (c .original)
-    ++ padded 4 (c .reason)
-    ++ padded 15 (c .name)
+    ++ padded reasonWidth (c .reason)
+    ++ padded nameWidth (c .name)
 
 -- room for two entries more than are in use
-abbrev pub callOf : Case → Call
-callOf c =
+abbrev pub edgeCall : Case → Call
+edgeCall c =
     record {
-      date = c .date;
+      terms = dated (c .date);
       sheet = sheetOf c;
       table = bytesOf 4 2 ++ row "AAAALV22XXX" ++ row "BBBBLV22XXX";
-      register = bytesOf 4 (length (c .used)) ++ joined (c .used) ++ replicate 88 0;
+      register = bytesOf 4 (length (c .used)) ++ joined (c .used) ++ replicate (2 * entryWidth) 0;
       positions = replicate 16 0;
       report = replicate 110 0;
     }
@@ -69,10 +74,10 @@ abbrev pub refusalOf : Outcome → ℕ
 refusalOf left = left .number
 
 abbrev pub bulkFaultsOf : Outcome → ℕ
-bulkFaultsOf left = numberAt (left .report) 40 2
+bulkFaultsOf left = faultsIn (bulkLineFrom (left .report) firstLine)
 
 abbrev pub messageFaultsOf : Outcome → ℕ
-messageFaultsOf left = numberAt (left .report) 108 2
+messageFaultsOf left = faultsIn (messageLineFrom (left .report) (linesAt (sectionsPlace 1)))
 
 pub record Edge : Type 0 where
   pub call : Call
@@ -82,38 +87,38 @@ pub record Edge : Type 0 where
 -- ---- the table
 
 abbrev pub edge : Case → (Outcome → ℕ) → ℕ → Edge
-edge c told expected = record { call = callOf c; told = told; expected = expected }
+edge c told expected = record { call = edgeCall c; told = told; expected = expected }
 
 -- a payment on a date: the number of the refusal, 0 for none
-abbrev pub dated : ℕ → ℕ → Edge
-dated d =
-    edge (record { date = d; kind = 1; statedSum = 1; identifier = "T1"; amount = 1; original = 0; reason = ""; name = ""; used = [] }) refusalOf
+abbrev pub onDate : ℕ → ℕ → Edge
+onDate d =
+    edge (record { date = d; kind = paymentKind; statedSum = 1; identifier = "T1"; amount = 1; original = 0; reason = ""; name = ""; used = [] }) refusalOf
 
 -- a payment of so many cents: the faults of its message
 abbrev pub paying : ℕ → ℕ → Edge
 paying a =
-    edge (record { date = 20260615; kind = 1; statedSum = a; identifier = "T1"; amount = a; original = 0; reason = ""; name = ""; used = [] }) messageFaultsOf
+    edge (record { date = 20260615; kind = paymentKind; statedSum = a; identifier = "T1"; amount = a; original = 0; reason = ""; name = ""; used = [] }) messageFaultsOf
 
 -- a payment under an identifier: the faults of its message
 abbrev pub named : String → ℕ → Edge
 named s =
-    edge (record { date = 20260615; kind = 1; statedSum = 1; identifier = s; amount = 1; original = 0; reason = ""; name = ""; used = [] }) messageFaultsOf
+    edge (record { date = 20260615; kind = paymentKind; statedSum = 1; identifier = s; amount = 1; original = 0; reason = ""; name = ""; used = [] }) messageFaultsOf
 
 -- a bulk that stands in the register, with a stated sum of two cents where one is paid: its faults
 abbrev pub repeatWithWrongSum : ℕ → Edge
 repeatWithWrongSum =
-    edge (record { date = 20260615; kind = 1; statedSum = 2; identifier = "T1"; amount = 1; original = 0; reason = ""; name = ""; used = entry (text "AAAALV22") (padded 35 "D1") bulkTag ∷ [] }) bulkFaultsOf
+    edge (record { date = 20260615; kind = paymentKind; statedSum = 2; identifier = "T1"; amount = 1; original = 0; reason = ""; name = ""; used = key (text "AAAALV22") (padded identifierWidth "D1") bulkTag ∷ [] }) bulkFaultsOf
 
 -- a return for a reason: the faults of its message
 abbrev pub returned : String → ℕ → Edge
 returned reason =
-    edge (record { date = 20260615; kind = 3; statedSum = 1; identifier = "T1"; amount = 1; original = 1; reason = reason; name = "pacs.008.001.08"; used = [] }) messageFaultsOf
+    edge (record { date = 20260615; kind = returnKind; statedSum = 1; identifier = "T1"; amount = 1; original = 1; reason = reason; name = "pacs.008.001.08"; used = [] }) messageFaultsOf
 
 abbrev pub edges : List Edge
 edges =
-    dated 20240229 0
-    ∷ dated 20230229 1
-    ∷ dated 21000229 1
+    onDate 20240229 0
+    ∷ onDate 20230229 1
+    ∷ onDate 21000229 1
     ∷ paying 0 16
     ∷ paying 99999999999 0
     ∷ paying 100000000000 16

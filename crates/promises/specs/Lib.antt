@@ -1,5 +1,6 @@
 pub mod Determined
 pub mod Reading
+pub mod Code
 pub mod Cut
 pub mod Demands
 pub mod Runs

@@ -1,14 +1,20 @@
--- How a caller reads what a judge left: the lines of the report, and which messages it says were accepted. The report alone is read,
--- by its layout, so that these words mean the same of any judge. Assumes nothing.
+-- How a caller reads what a judge left: the lines of the report, which messages it says were accepted, and what that means for the
+-- register and for each row's cents. The report alone is read, by its layout, so that these words mean the same of any judge.
+-- Assumes nothing.
 use Prim.Native.Nat.{ℕ, _+_, _-_, _*_}
-use mathlib.Core.Bool.{Bool, cond}
-use mathlib.Core.List.{List, [], _∷_, _++_}
+use mathlib.Core.Bool.{Bool, false, cond, not}
+use mathlib.Core.List.{List, [], _∷_, _++_, map}
+use mathlib.Core.Option.{Option, none, some}
 use lib.ListN.{length}
 use lib.Dec.{eqb}
 use Rattle.wire.specs.Field.{Bytes, part, numberAt}
-use Rattle.sheet.specs.Sheet.{Bulk, bulkCount, bulksOf, senderOf, identifierOf, receiverOf, amountOf}
-use Rattle.report.specs.Line.{bulkLineWidth, messageLineWidth}
-use Rattle.judging.specs.Refusals.{Call}
+use Rattle.routing.specs.Lookup.{rowOf, headOffice, route}
+use Rattle.sheet.specs.Sheet.{Bulk, bulkCount, bulksOf, senderOf, bulkIdentifierOf, identifierOf, receiverOf, amountOf}
+use Rattle.register.specs.Register.{key, messageTag, bulkTag, add}
+use Rattle.rules.specs.declared.Terms.{Terms}
+use Rattle.report.specs.Line.{bulkLineWidth, messageLineWidth, outcomeIn, faultsIn, countWidth, firstLine, sectionsPlace, linesAt, afterLines}
+use Rattle.refusing.specs.Refusals.{Call}
+use Rattle.messages.specs.Messages.{messageAccepted}
 use Rattle.judging.specs.Outcome.{Outcome}
 
 -- any judge, as far as a caller can tell: from what it is given to what it answers and leaves
@@ -27,19 +33,30 @@ pub record InBytes (call : Call) : Type 0 where
 
 -- the number of bulk lines that the report says it has
 abbrev pub lineCount : Outcome → ℕ
-lineCount left = numberAt (left .report) 0 4
-
--- where the message lines begin
-abbrev pub afterBulkLines : ℕ → ℕ
-afterBulkLines bulks = 4 + bulkLineWidth * bulks
+lineCount left = numberAt (left .report) 0 countWidth
 
 -- all bulk lines, one after the other
 abbrev pub bulkLines : Outcome → List ℕ
-bulkLines left = part (left .report) 4 (bulkLineWidth * lineCount left)
+bulkLines left = part (left .report) firstLine (bulkLineWidth * lineCount left)
 
 -- all message lines, those of each bulk after their count
 abbrev pub messageLines : Outcome → List ℕ
-messageLines left = part (left .report) (afterBulkLines (lineCount left)) (left .length - afterBulkLines (lineCount left))
+messageLines left = part (left .report) (sectionsPlace (lineCount left)) (left .length - sectionsPlace (lineCount left))
+
+-- the bulk line, and the message line, that begins at a place
+abbrev pub bulkLineFrom : List ℕ → ℕ → List ℕ
+bulkLineFrom report at = part report at bulkLineWidth
+
+abbrev pub messageLineFrom : List ℕ → ℕ → List ℕ
+messageLineFrom report at = part report at messageLineWidth
+
+-- of a bulk line: it shows a fault, so that all its messages fall
+abbrev pub saysFallen : List ℕ → Bool
+saysFallen line = not (eqb (faultsIn line) 0)
+
+-- of a message line: its outcome
+abbrev pub saysAccepted : List ℕ → Bool
+saysAccepted line = eqb (outcomeIn line) messageAccepted
 
 -- ---- the messages that were accepted
 
@@ -53,24 +70,77 @@ abbrev pub paymentOf : List ℕ → List ℕ → Payment
 paymentOf header message =
     record { sender = senderOf header; identifier = identifierOf message; receiver = receiverOf message; cents = amountOf message }
 
--- the outcome in the message line that begins at place at: 0 says accepted
-abbrev pub saysAccepted : List ℕ → ℕ → Bool
-saysAccepted report at = eqb (numberAt report (at + 35) 1) 0
-
 -- of the messages of one bulk, whose lines begin at place at
 unfoldable pub acceptedOf : List ℕ → List ℕ → List (List ℕ) → ℕ → List Payment
 acceptedOf report header [] at = []
 acceptedOf report header (m ∷ ms) at =
     let later = acceptedOf report header ms (at + messageLineWidth) in
-    cond (saysAccepted report at) (paymentOf header m ∷ later) later
+    cond (saysAccepted (messageLineFrom report at)) (paymentOf header m ∷ later) later
 
 -- of some bulks, whose sections begin at place at
 unfoldable pub acceptedFrom : List ℕ → List Bulk → ℕ → List Payment
 acceptedFrom report [] at = []
 acceptedFrom report (b ∷ bs) at =
-    acceptedOf report (b .header) (b .messages) (at + 4) ++ acceptedFrom report bs (at + 4 + messageLineWidth * length (b .messages))
+    acceptedOf report (b .header) (b .messages) (linesAt at) ++ acceptedFrom report bs (afterLines at (length (b .messages)))
 
 -- of a sheet, by what was left: nothing where it was refused
 unfoldable pub accepted : List ℕ → Outcome → List Payment
 accepted sheet left =
-    cond (eqb (left .number) 0) (acceptedFrom (left .report) (bulksOf sheet) (afterBulkLines (bulkCount sheet))) []
+    cond (eqb (left .number) 0) (acceptedFrom (left .report) (bulksOf sheet) (sectionsPlace (bulkCount sheet))) []
+
+-- ---- what the register gains by it, told by the keys
+
+abbrev pub keyOf : Payment → List ℕ
+keyOf p = key (p .sender) (p .identifier) messageTag
+
+-- a bulk's own key, where one of its messages was accepted
+abbrev pub ownKey : List ℕ → List Payment → List (List ℕ)
+ownKey header [] = []
+ownKey header (p ∷ ps) = key (senderOf header) (bulkIdentifierOf header) bulkTag ∷ []
+
+-- the keys of a bulk of which these messages were accepted: theirs, then its own
+abbrev pub keysBy : List ℕ → List Payment → List (List ℕ)
+keysBy header taken = map keyOf taken ++ ownKey header taken
+
+-- of one bulk, whose section begins at place at
+abbrev pub recordedOf : List ℕ → Bulk → ℕ → List (List ℕ)
+recordedOf report bulk at = keysBy (bulk .header) (acceptedOf report (bulk .header) (bulk .messages) (linesAt at))
+
+-- of some bulks, in their order
+unfoldable pub recordedFrom : List ℕ → List Bulk → ℕ → List (List ℕ)
+recordedFrom report [] at = []
+recordedFrom report (b ∷ bs) at = recordedOf report b at ++ recordedFrom report bs (afterLines at (length (b .messages)))
+
+-- of a sheet, by what was left: none where it was refused
+unfoldable pub recorded : List ℕ → Outcome → List (List ℕ)
+recorded sheet left =
+    cond (eqb (left .number) 0) (recordedFrom (left .report) (bulksOf sheet) (sectionsPlace (bulkCount sheet))) []
+
+-- a register with these keys added, one after the other
+unfoldable pub withKeys : List ℕ → List (List ℕ) → List ℕ
+withKeys register [] = register
+withKeys register (k ∷ ks) = withKeys (add register k) ks
+
+-- ---- cents to a row, and from it
+
+-- row j was found
+abbrev pub isRow : Option ℕ → ℕ → Bool
+isRow none j = false
+isRow (some i) j = eqb i j
+
+module _ (terms : Terms) (table : List ℕ) (j : ℕ) where
+  -- a message is accepted to row j if the row of its receiver is row j: the receiver's own, else that of its head office
+  abbrev pub toRow : Payment → Bool
+  toRow p = isRow (route (terms .date) table (p .receiver)) j
+
+  -- and from row j if the row of its bulk's sender is row j: the first that counts of the sender followed by XXX
+  abbrev pub fromRow : Payment → Bool
+  fromRow p = isRow (rowOf (terms .date) table (headOffice (p .sender))) j
+
+  unfoldable pub centsTo : List Payment → ℕ
+  centsTo [] = 0
+  centsTo (p ∷ ps) = cond (toRow p) (p .cents) 0 + centsTo ps
+
+  unfoldable pub centsFrom : List Payment → ℕ
+  centsFrom [] = 0
+  centsFrom (p ∷ ps) = cond (fromRow p) (p .cents) 0 + centsFrom ps

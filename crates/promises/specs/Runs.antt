@@ -1,18 +1,17 @@
--- A run of files on one date and table, each judged on what the one before it left, and what holds over it. Assumes nothing.
-use Prim.Native.Nat.{ℕ, _+_}
+-- A run of files on the same terms and table, each judged on what the one before it left, and what holds over it. Assumes nothing.
+use Prim.Native.Nat.{ℕ}
 use mathlib.Core.Path.{_≡_}
-use mathlib.Core.Bool.{Bool, true, false, cond}
+use mathlib.Core.Bool.{true, cond}
 use mathlib.Core.List.{List, [], _∷_, _++_, map}
-use mathlib.Core.Option.{Option, none, some}
 use lib.Dec.{eqb}
 use lib.IntN.{pos, _+ℤ_, _-ℤ_}
 use Rattle.wire.specs.Field.{Bytes, numberAt}
-use Rattle.routing.specs.Lookup.{rowOf, headOffice, route}
-use Rattle.register.specs.Register.{entry, messageTag, tagPlace, used, entriesOf, stands}
+use Rattle.register.specs.Register.{messageTag, tagPlace, entry, used, entriesOf, keysOf, stands}
 use Rattle.positions.specs.Positions.{positionAt, signed}
-use Rattle.judging.specs.Judgement.{State}
-use Rattle.judging.specs.Refusals.{Call}
-use Rattle.promises.specs.Reading.{Judge, Payment, accepted}
+use Rattle.rules.specs.declared.Terms.{Terms}
+use Rattle.refusing.specs.Refusals.{Call}
+use Rattle.messages.specs.Messages.{State}
+use Rattle.promises.specs.Reading.{Judge, Payment, accepted, recorded, keyOf, centsTo, centsFrom}
 
 -- ---- a run
 
@@ -21,16 +20,17 @@ pub record File : Type 0 where
   pub sheet : List ℕ
   pub space : List ℕ
 
--- what a run accepted, in order, and the register and positions after it
+-- the messages that the reports of a run say were accepted, the keys recorded, both in order, and the register and positions after it
 pub record Ran : Type 0 where
   pub accepted : List Payment
+  pub recorded : List (List ℕ)
   pub after : State
 
-module _ (judge : Judge) (date : ℕ) (table : List ℕ) where
+module _ (judge : Judge) (terms : Terms) (table : List ℕ) where
   abbrev pub callOn : State → File → Call
   callOn before file =
       record {
-        date = date;
+        terms = terms;
         sheet = file .sheet;
         table = table;
         register = before .register;
@@ -38,14 +38,19 @@ module _ (judge : Judge) (date : ℕ) (table : List ℕ) where
         report = file .space;
       }
 
-  abbrev pub leftBy : State → File → State
-  leftBy before file = let left = judge (callOn before file) in record { register = left .register; positions = left .positions }
+  abbrev pub stateAfter : State → File → State
+  stateAfter before file = let left = judge (callOn before file) in record { register = left .register; positions = left .positions }
 
   unfoldable pub run : List File → State → Ran
-  run [] before = record { accepted = []; after = before }
+  run [] before = record { accepted = []; recorded = []; after = before }
   run (f ∷ fs) before =
-      let rest = run fs (leftBy before f) in
-      record { accepted = accepted (f .sheet) (judge (callOn before f)) ++ rest .accepted; after = rest .after }
+      let left = judge (callOn before f) in
+      let rest = run fs (stateAfter before f) in
+      record {
+        accepted = accepted (f .sheet) left ++ rest .accepted;
+        recorded = recorded (f .sheet) left ++ rest .recorded;
+        after = rest .after;
+      }
 
 -- ---- no identifier of a sender twice
 
@@ -63,67 +68,43 @@ NoneTwice (p ∷ ps) = NoneLike p ps × NoneTwice ps
 
 -- ---- what stands in the register
 
-abbrev pub entryOf : Payment → List ℕ
-entryOf p = entry (p .sender) (p .identifier) messageTag
-
--- the entries in use that bear the tag of a message
+-- the keys that bear the tag of a message
 unfoldable pub withMessageTag : List (List ℕ) → List (List ℕ)
 withMessageTag [] = []
-withMessageTag (e ∷ es) = cond (eqb (numberAt e tagPlace 1) messageTag) (e ∷ withMessageTag es) (withMessageTag es)
+withMessageTag (k ∷ ks) = cond (eqb (numberAt k tagPlace 1) messageTag) (k ∷ withMessageTag ks) (withMessageTag ks)
 
-abbrev pub messageEntries : List ℕ → List (List ℕ)
-messageEntries register = withMessageTag (entriesOf register)
+-- of the entries in use
+abbrev pub messageKeys : List ℕ → List (List ℕ)
+messageKeys register = withMessageTag (keysOf register)
 
 -- each of them stands there
 unfoldable pub AllStand : List ℕ → List Payment → Type 0
 AllStand register [] = Unit {0}
-AllStand register (p ∷ ps) = (stands register (entryOf p) ≡ true) × AllStand register ps
-
--- ---- cents to a row, and from it
-
--- row j was found
-abbrev pub isRow : Option ℕ → ℕ → Bool
-isRow none j = false
-isRow (some i) j = eqb i j
-
-module _ (date : ℕ) (table : List ℕ) (j : ℕ) where
-  -- a message is accepted to row j if the row of its receiver is row j: the receiver's own, else that of its head office
-  abbrev pub toRow : Payment → Bool
-  toRow p = isRow (route date table (p .receiver)) j
-
-  -- and from row j if the row of its bulk's sender is row j: the first that counts of the sender followed by XXX
-  abbrev pub fromRow : Payment → Bool
-  fromRow p = isRow (rowOf date table (headOffice (p .sender))) j
-
-  unfoldable pub centsTo : List Payment → ℕ
-  centsTo [] = 0
-  centsTo (p ∷ ps) = cond (toRow p) (p .cents) 0 + centsTo ps
-
-  unfoldable pub centsFrom : List Payment → ℕ
-  centsFrom [] = 0
-  centsFrom (p ∷ ps) = cond (fromRow p) (p .cents) 0 + centsFrom ps
+AllStand register (p ∷ ps) = (stands register (keyOf p) ≡ true) × AllStand register ps
 
 -- ---- what holds
 
-pub record RunHolds (date : ℕ) (table : List ℕ) (before : State) (ran : Ran) : Type 0 where
+pub record RunHolds (terms : Terms) (table : List ℕ) (before : State) (ran : Ran) : Type 0 where
   -- no sender's message identifier is accepted twice
   pub once : NoneTwice (ran .accepted)
-  -- every accepted message stands in the register, and no other message was recorded
+  -- the entries in use are those before the run, then for each file in order what its report says was recorded
+  pub recorded : entriesOf (ran .after .register) ≡ entriesOf (before .register) ++ map entry (ran .recorded)
+  -- so every accepted message stands there, and no other message was recorded
   pub stands : AllStand (ran .after .register) (ran .accepted)
-  pub recorded : messageEntries (ran .after .register) ≡ messageEntries (before .register) ++ map entryOf (ran .accepted)
+  pub messages : messageKeys (ran .after .register) ≡ messageKeys (before .register) ++ map keyOf (ran .accepted)
   -- each row's position is its start plus the cents accepted to it less the cents accepted from it
   pub positions : (j : ℕ)
       → signed (positionAt (ran .after .positions) j)
-      ≡ signed (positionAt (before .positions) j) +ℤ pos (centsTo date table j (ran .accepted)) -ℤ pos (centsFrom date table j (ran .accepted))
+      ≡ signed (positionAt (before .positions) j) +ℤ pos (centsTo terms table j (ran .accepted)) -ℤ pos (centsFrom terms table j (ran .accepted))
 
 -- demand 3, the run: of a judge, for any files, refused ones among them, from any register and any positions
 abbrev pub RunsAsPromised : Judge → Type 0
 RunsAsPromised judge =
-    (date : ℕ) (table : List ℕ) (before : State) (files : List File) → Bytes (before .positions)
-    → RunHolds date table before (run judge date table files before)
+    (terms : Terms) (table : List ℕ) (before : State) (files : List File) → Bytes (before .positions)
+    → RunHolds terms table before (run judge terms table files before)
 
--- and from an empty one, whatever stands past the number used: the message entries are those of the accepted messages
+-- and from an empty one, whatever stands past the number used: the entries in use are those that the reports tell of
 abbrev pub EmptyRegisterFills : Judge → Type 0
 EmptyRegisterFills judge =
-    (date : ℕ) (table : List ℕ) (before : State) (files : List File) → used (before .register) ≡ 0 → Bytes (before .positions)
-    → let ran = run judge date table files before in messageEntries (ran .after .register) ≡ map entryOf (ran .accepted)
+    (terms : Terms) (table : List ℕ) (before : State) (files : List File) → used (before .register) ≡ 0 → Bytes (before .positions)
+    → let ran = run judge terms table files before in entriesOf (ran .after .register) ≡ map entry (ran .recorded)

@@ -1,20 +1,22 @@
 -- Judges that must be shut out, each the right one but for what its name says. Assumes nothing.
-use Prim.Native.Nat.{ℕ, _+_, _-_, _/_, _%_}
+use Prim.Native.Nat.{ℕ, _+_, _-_, _^_}
+use mathlib.Core.Path.{_≡_}
 use mathlib.Core.Bool.{cond}
-use mathlib.Core.List.{List, [], _∷_, _++_}
+use mathlib.Core.List.{List, [], _∷_, _++_, map}
 use lib.ListN.{length, getD}
 use lib.Seq.{sets}
 use lib.Dec.{eqb, ltb}
-use Rattle.wire.specs.Field.{part, numberAt, bytesOf}
-use Rattle.routing.specs.Lookup.{route}
-use Rattle.sheet.specs.Sheet.{Bulk, bulksOf, bulkCount, senderOf, identifierOf, receiverOf, statedSumOf}
-use Rattle.register.specs.Register.{entry, messageTag, used, add}
-use Rattle.rules.specs.Facts.{senderRow}
-use Rattle.report.specs.Line.{bulkLineWidth}
-use Rattle.judging.specs.Judgement.{moved}
-use Rattle.judging.specs.Refusals.{Call}
+use Rattle.wire.specs.Field.{part, bytesOf}
+use Rattle.masks.specs.Mask.{shown}
+use Rattle.sheet.specs.Sheet.{Bulk, bulksOf, bulkCount, senderOf, identifierOf, statedSumOf}
+use Rattle.register.specs.Register.{key, messageTag, usedWidth, used, entryPlace, add}
+use Rattle.faults.specs.Bits.{bulkRepeatedBit}
+use Rattle.faults.specs.Faults.{senderRow, receiverRow}
+use Rattle.report.specs.Line.{faultsPlace, faultsWidth, acceptedNumberPlace, numberWidth, bulkLineWidth, outcomeIn, faultsIn, countWidth, firstLine, sectionsPlace, linesAt, afterLines}
+use Rattle.messages.specs.Messages.{messageFell, moved}
+use Rattle.refusing.specs.Refusals.{Call, refusal}
 use Rattle.judging.specs.Outcome.{Outcome, turnedAway, outcome}
-use Rattle.promises.specs.Reading.{Judge, afterBulkLines}
+use Rattle.promises.specs.Reading.{Judge, bulkLineFrom, messageLineFrom, acceptedOf, accepted, keyOf, ownKey, withKeys}
 use Rattle.promises.specs.Cut.{CutsAnywhere}
 use Rattle.promises.specs.Demands.{RefusesAsWritten, EveryLineTells, LeavesTheRest}
 use Rattle.promises.specs.Runs.{RunsAsPromised}
@@ -67,16 +69,40 @@ writesNothing call =
 -- where there are two bulks or more, the second one's line is the first one's
 abbrev pub copiesTheFirstLine : Judge
 copiesTheFirstLine call =
-    whereJudged (λ left. cond (ltb 1 (bulkCount (call .sheet))) (withReport left (sets (left .report) (4 + bulkLineWidth) (part (left .report) 4 bulkLineWidth))) left) call
+    whereJudged (λ left. cond (ltb 1 (bulkCount (call .sheet))) (withReport left (sets (left .report) (firstLine + bulkLineWidth) (bulkLineFrom (left .report) firstLine))) left) call
 
 -- the first bulk's line says that all its messages were accepted
 abbrev pub makesUpTheNumber : Judge
-makesUpTheNumber call = whereJudged (λ left. withReport left (sets (left .report) 42 (bytesOf 4 (length (firstBulk call .messages))))) call
+makesUpTheNumber call = whereJudged (λ left. withReport left (sets (left .report) (firstLine + acceptedNumberPlace) (bytesOf numberWidth (length (firstBulk call .messages))))) call
 
 -- where the first bulk is a repeat, nothing else is shown
 abbrev pub hidesBesideARepeat : Judge
 hidesBesideARepeat call =
-    whereJudged (λ left. cond (eqb (numberAt (left .report) 40 2 / 16 % 2) 1) (withReport left (sets (left .report) 40 (bytesOf 2 16))) left) call
+    whereJudged (λ left.
+    cond (shown (faultsIn (bulkLineFrom (left .report) firstLine)) bulkRepeatedBit)
+    (withReport left (sets (left .report) (firstLine + faultsPlace) (bytesOf faultsWidth (2 ^ bulkRepeatedBit))))
+    left) call
+
+-- no key of a bulk is added
+abbrev pub recordsNoBulk : Judge
+recordsNoBulk call = whereJudged (λ left. withRegister left (withKeys (call .register) (map keyOf (accepted (call .sheet) left)))) call
+
+-- each bulk's own key is added before those of its messages
+unfoldable pub bulksFirst : List ℕ → List Bulk → ℕ → List (List ℕ)
+bulksFirst report [] at = []
+bulksFirst report (b ∷ bs) at =
+    let taken = acceptedOf report (b .header) (b .messages) (linesAt at) in
+    ownKey (b .header) taken ++ map keyOf taken ++ bulksFirst report bs (afterLines at (length (b .messages)))
+
+abbrev pub recordsTheBulkFirst : Judge
+recordsTheBulkFirst call =
+    whereJudged (λ left.
+    withRegister left (withKeys (call .register) (bulksFirst (left .report) (bulksOf (call .sheet)) (sectionsPlace (bulkCount (call .sheet)))))) call
+
+-- a byte after the entries in use is set
+abbrev pub writesPastTheEntries : Judge
+writesPastTheEntries call =
+    whereJudged (λ left. withRegister left (sets (left .register) (entryPlace (used (left .register))) (1 ∷ []))) call
 
 -- a byte after the report is set
 abbrev pub writesPastTheReport : Judge
@@ -88,27 +114,31 @@ writesPastTheReport call = whereJudged (λ left. withReport left (sets (left .re
 abbrev pub dropsALine : Judge
 dropsALine call =
     cond (eqb (bulkCount (call .sheet)) 2)
-    (withReport (outcome call) (sets (call .report) 0 (bytesOf 4 1 ++ part (outcome call .report) 4 bulkLineWidth)))
+    (withReport (outcome call) (sets (call .report) 0 (bytesOf countWidth 1 ++ bulkLineFrom (outcome call .report) firstLine)))
     (outcome call)
 
 -- of a file of one bulk the last entry added does not come into use: its lines are right, and so is every other file
 abbrev pub forgetsALoneBulk : Judge
 forgetsALoneBulk call =
-    whereJudged (λ left. cond (eqb (bulkCount (call .sheet)) 1) (withRegister left (sets (left .register) 0 (bytesOf 4 (used (left .register) - 1)))) left) call
+    whereJudged (λ left. cond (eqb (bulkCount (call .sheet)) 1) (withRegister left (sets (left .register) 0 (bytesOf usedWidth (used (left .register) - 1)))) left) call
 
--- once an identifier is in use, every report is the one that was first written
-abbrev pub copiesTheFirstFile : List ℕ → Judge
+-- the report that the judge wrote on a call
+abbrev pub written : Call → List ℕ
+written call = part (outcome call .report) 0 (outcome call .length)
+
+-- once an identifier is in use, every report is the one that the judge wrote on a first call
+abbrev pub copiesTheFirstFile : Call → Judge
 copiesTheFirstFile first call =
     cond (eqb (used (call .register)) 0)
     (outcome call)
-    (record { number = 0; length = length first; register = call .register; positions = call .positions; report = sets (call .report) 0 first })
+    (record { number = 0; length = length (written first); register = call .register; positions = call .positions; report = sets (call .report) 0 (written first) })
 
 -- the first message is recorded though it fell
 abbrev pub recordsTheFallen : Judge
 recordsTheFallen call =
     whereJudged (λ left.
-    cond (eqb (numberAt (left .report) (afterBulkLines (bulkCount (call .sheet)) + 4 + 35) 1) 2)
-    (withRegister left (add (left .register) (entry (senderOf (firstBulk call .header)) (identifierOf (firstMessage call)) messageTag)))
+    cond (eqb (outcomeIn (messageLineFrom (left .report) (linesAt (sectionsPlace (bulkCount (call .sheet)))))) messageFell)
+    (withRegister left (add (left .register) (key (senderOf (firstBulk call .header)) (identifierOf (firstMessage call)) messageTag)))
     left) call
 
 abbrev pub recordsNothing : Judge
@@ -119,7 +149,7 @@ abbrev pub movesTheStatedSum : Judge
 movesTheStatedSum call =
     whereJudged (λ left.
     withPositions left
-    (moved (call .positions) (senderRow (call .date) (call .table) (firstBulk call .header)) (route (call .date) (call .table) (receiverOf (firstMessage call)))
+    (moved (call .positions) (senderRow (call .terms) (call .table) (firstBulk call .header)) (receiverRow (call .terms) (call .table) (firstMessage call))
     (statedSumOf (firstBulk call .header)))) call
 
 -- ---- which statement refuses which
@@ -133,11 +163,16 @@ pub record ShutOut : Type 0 where
   pub copiesTheFirstLine : EveryLineTells copiesTheFirstLine → ⊥
   pub makesUpTheNumber : EveryLineTells makesUpTheNumber → ⊥
   pub hidesBesideARepeat : EveryLineTells hidesBesideARepeat → ⊥
+  pub leavesNoBulk : LeavesTheRest recordsNoBulk → ⊥
+  pub leavesTheBulkFirst : LeavesTheRest recordsTheBulkFirst → ⊥
+  pub writesPastTheEntries : LeavesTheRest writesPastTheEntries → ⊥
   pub writesPastTheReport : LeavesTheRest writesPastTheReport → ⊥
   pub dropsALine : CutsAnywhere dropsALine → ⊥
   pub forgetsALoneBulk : CutsAnywhere forgetsALoneBulk → ⊥
-  -- the report that the judge wrote on some file, handed out again
-  pub copiesTheFirstFile : (first : List ℕ) × (RunsAsPromised (copiesTheFirstFile first) → ⊥)
+  -- some call that was judged, whose report is handed out again
+  pub copiesTheFirstFile : (first : Call) × ((refusal first ≡ 0) × (RunsAsPromised (copiesTheFirstFile first) → ⊥))
   pub recordsTheFallen : RunsAsPromised recordsTheFallen → ⊥
   pub recordsNothing : RunsAsPromised recordsNothing → ⊥
+  pub recordsNoBulk : RunsAsPromised recordsNoBulk → ⊥
+  pub recordsTheBulkFirst : RunsAsPromised recordsTheBulkFirst → ⊥
   pub movesTheStatedSum : RunsAsPromised movesTheStatedSum → ⊥

@@ -1,9 +1,9 @@
 -- The laws of the lines and their places that the crates above cite, and those that the proofs here share. Assumes nothing.
 use mathlib.Core.Path.{_≡_, sym, ap, _∙_}
 use mathlib.Core.List.{List, _++_}
-use Prim.Native.Nat.{ℕ, suc, _+_, _*_, _^_, _≤_, _<_}
-use native.Mathlib.Nat.{le-refl, mul-le-mul-left}
+use Prim.Native.Nat.{ℕ, _+_, _*_, _^_, _≤_, _<_}
 use native.Mathlib.Omega.{arith}
+use lib.Dec.{lit≤}
 use lib.ListN.{length, length-append}
 use lib.Seq.{sets}
 use Rattle.wire.specs.Field.{bytesOf}
@@ -16,7 +16,7 @@ use Rattle.report.specs.Line.{identifierWidth, outcomePlace, outcomeWidt
 
 pub head-in-message : lineHeadWidth ≤ messageLineWidth
 unfolding messageLineWidth
-head-in-message = le-refl lineHeadWidth
+head-in-message = lit≤ tt
 
 -- line j of n lies within them
 pub line-within : (j n : ℕ) → j < n → messageLineWidth * j + messageLineWidth ≤ messageLineWidth * n
