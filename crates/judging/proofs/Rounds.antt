@@ -8,7 +8,7 @@ use lib.ListN.{length, length-append}
 use lib.Seq.{sets}
 use Rattle.wire.proofs.Stores.{sets-then, sets-swap}
 use Rattle.routing.specs.Table.{rows}
-use Rattle.sheet.specs.Sheet.{headerWidth, kindOf, headerAt, countAt, afterMessages, Bulk, bulkAt, bulksFrom, bulksOf, bulkCount, firstSection, endFrom, messagesFrom, messageCount}
+use Rattle.sheet.specs.Sheet.{countWidth as sheetCount, headerWidth, kindOf, headerAt, countAt, afterMessages, Bulk, bulkAt, bulksFrom, bulksOf, bulkCount, firstSection, endFrom, messagesFrom, messageCount}
 use Rattle.sheet.specs.Reading.{HeaderRead, Inside, BulkTaken}
 use Rattle.sheet.specs.declared.Header.{Header}
 use Rattle.sheet.specs.declared.Section.{Section}
@@ -17,7 +17,7 @@ use Rattle.sheet.proofs.Laws.{whole-facts, header-bound, end-step, end-bound, m
 use Rattle.positions.specs.Positions.{positionWidth}
 use Rattle.rules.specs.declared.Terms.{Terms}
 use Rattle.tally.specs.Room.{mostCounted}
-use Rattle.report.specs.Line.{firstLine, sectionsPlace, afterLines, messageLineWidth, bulkLineWidth}
+use Rattle.report.specs.Line.{countWidth, firstLine, sectionsPlace, afterLines, messageLineWidth, bulkLineWidth}
 use Rattle.report.specs.Told.{PlacesTold}
 use Rattle.report.specs.declared.Places.{Places}
 use Rattle.refusing.specs.Refusals.{mostMessages}
@@ -35,13 +35,13 @@ sections-within sheet table positions report contents ready = (let space = ready
 module _ (terms : Terms) (table sheet : List ℕ) (bulks : ℕ) (before : State) (report₀ : List ℕ) where
   pub record BulksLeft (register positions report : List ℕ) (head at line to k : ℕ) : Type 0 where
     pub low : k ≤ bulks
-    pub headed : 4 + headerWidth * bulks ≤ length sheet
-    pub headHere : head ≡ 4 + headerWidth * k
+    pub headed : sheetCount + headerWidth * bulks ≤ length sheet
+    pub headHere : head ≡ sheetCount + headerWidth * k
     pub lineHere : line ≡ firstLine + bulkLineWidth * k
     pub toHere : sectionsPlace bulks ≤ to
     pub ended : endFrom sheet (bulks - k) head at ≡ length sheet
     pub few : messagesFrom sheet (bulks - k) head at ≤ mostMessages
-    pub space : to + 4 * (bulks - k) + messageLineWidth * messagesFrom sheet (bulks - k) head at ≤ length report₀
+    pub space : to + countWidth * (bulks - k) + messageLineWidth * messagesFrom sheet (bulks - k) head at ≤ length report₀
     pub registerWide : length register ≡ length (before .register)
     pub positionsWide : length positions ≡ length (before .positions)
     pub reportWide : length report ≡ length report₀
@@ -53,7 +53,7 @@ module _ (terms : Terms) (table sheet : List ℕ) (bulks : ℕ) (before : State)
         ≡ sets (sets report₀ firstLine (judgeBulks terms table (bulksOf sheet) before .lines)) (sectionsPlace bulks) (judgeBulks terms table (bulksOf sheet) before .sections)
 
   pub bulks-start : (contents : Contents) → contents .bulks ≡ bulks → BulksReady sheet table (before .positions) report₀ contents
-      → (head at : ℕ) → head ≡ 4 → at ≡ firstSection sheet → (line to : ℕ) → line ≡ firstLine → to ≡ sectionsPlace bulks
+      → (head at : ℕ) → head ≡ sheetCount → at ≡ firstSection sheet → (line to : ℕ) → line ≡ firstLine → to ≡ sectionsPlace bulks
       → BulksLeft (before .register) (before .positions) report₀ head at line to 0
   bulks-start contents holds ready head at eh ea line to el et =
       let m = ready .few .measured in
@@ -78,7 +78,7 @@ module _ (terms : Terms) (table sheet : List ℕ) (bulks : ℕ) (before : State)
 
   module _ (register positions report : List ℕ) (head at line to k : ℕ) (left : BulksLeft register positions report head at line to k) where
     pub header-within : k < bulks → head + headerWidth ≤ length sheet
-    header-within h = rw (left .headHere) (header-bound sheet 4 bulks k (left .headed) h)
+    header-within h = rw (left .headHere) (header-bound sheet sheetCount bulks k (left .headed) h)
 
     pub bulk-inside : k < bulks → Inside sheet head at
     bulk-inside h = end-bound sheet bulks k head at h (header-within h) (le-of-eq (left .ended))
@@ -168,9 +168,9 @@ module _ (terms : Terms) (table sheet : List ℕ) (bulks : ℕ) (before : State)
         unfolding theLine
         line-long = bulk-line-wide terms table sheet (bulkAt sheet head at) head (stateOf register positions) refl (header-within h)
 
-        section-long : length theSection ≡ 4 + messageLineWidth * n
+        section-long : length theSection ≡ countWidth + messageLineWidth * n
         unfolding theSection
-        section-long = rw en (section-wide terms table sheet (bulkAt sheet head at) (kindOf (headerAt sheet head)) (countAt sheet at) (at + 4) (stateOf register positions) refl (bulk-inside h .messages))
+        section-long = rw en (section-wide terms table sheet (bulkAt sheet head at) (kindOf (headerAt sheet head)) (countAt sheet at) (at + sheetCount) (stateOf register positions) refl (bulk-inside h .messages))
 
         left-long : length linesLeft ≡ bulkLineWidth * (bulks - (k + 1))
         unfolding linesLeft
@@ -188,11 +188,11 @@ module _ (terms : Terms) (table sheet : List ℕ) (bulks : ℕ) (before : State)
         joined : sets (sets (sets (sets report to theSection) line theLine) (line + bulkLineWidth) linesLeft) (afterLines to n) sectionsLeft
             ≡ sets (sets report line (theLine ++ linesLeft)) to (theSection ++ sectionsLeft)
         joined =
-            let place : afterLines to n ≡ to + (4 + messageLineWidth * n) = omega arith in
+            let place : afterLines to n ≡ to + (countWidth + messageLineWidth * n) = omega arith in
             ap (λ (a : ℕ). sets (sets (sets (sets report to theSection) line theLine) (line + bulkLineWidth) linesLeft) a sectionsLeft) place
-            ∙ ap (λ (r : List ℕ). sets r (to + (4 + messageLineWidth * n)) sectionsLeft)
+            ∙ ap (λ (r : List ℕ). sets r (to + (countWidth + messageLineWidth * n)) sectionsLeft)
             (sets-then (sets report to theSection) line bulkLineWidth theLine linesLeft line-long ∙ sym (sets-swap report line (theLine ++ linesLeft) to theSection apart))
-            ∙ sets-then (sets report line (theLine ++ linesLeft)) to (4 + messageLineWidth * n) theSection sectionsLeft section-long
+            ∙ sets-then (sets report line (theLine ++ linesLeft)) to (countWidth + messageLineWidth * n) theSection sectionsLeft section-long
 
         pub bulks-turn : BulksLeft register' positions' report' head' at' line' to' (k + 1)
         unfolding theLine theSection linesLeft sectionsLeft

@@ -27,7 +27,7 @@ use Rattle.faults.specs.Faults.{senderRow, bulkFaults}
 use Rattle.faults.specs.Asked.{BulkAsked}
 use Rattle.tally.specs.Tally.{Totals, totalsOf}
 use Rattle.tally.specs.declared.Tally.{Tally}
-use Rattle.report.specs.Line.{bulkLine, bulkLineWidth, linesAt, messageLineWidth}
+use Rattle.report.specs.Line.{countWidth, bulkLine, bulkLineWidth, linesAt, messageLineWidth}
 use Rattle.report.specs.declared.Places.{Places}
 use Rattle.messages.specs.Messages.{State, judgeMessages, sumOf}
 use Rattle.messages.specs.Ready.{messagesOf, RulingReady, MessagesTold}
@@ -142,7 +142,7 @@ module _ (terms : Terms) (table sheet : List ℕ) (header : Header) (section : S
           (messagesJudged terms table (bulkIn sheet header section) before .after) _ refl
 
       module _ (report₁ report₂ report₃ : List ℕ) (outcome : ℕ)
-          (counted : report₁ ≡ sets report (places .section) (bytesOf 4 (section .number)))
+          (counted : report₁ ≡ sets report (places .section) (bytesOf countWidth (section .number)))
           (lines : report₂ ≡ sets report₁ (linesAt (places .section)) (judgeMessages terms table (headerIn sheet header) (not (eqb faults 0)) (messagesOf sheet (header .kind) section) before .lines))
           (eo : outcome ≡ bulkOutcome (not (eqb faults 0)) (totalsOf tally))
           (lined : report₃ ≡ sets report₂ (places .line) (bulkLine identifier outcome faults (totalsOf tally))) where
@@ -152,8 +152,8 @@ module _ (terms : Terms) (table sheet : List ℕ) (header : Header) (section : S
             let after = messagesJudged terms table (bulkIn sheet header section) before .lines in
             (rw (faults-are faults sum es ef) at lines)
             ∙ ap (λ (r : List ℕ). sets r (linesAt (places .section)) after) counted
-            ∙ sets-then report (places .section) 4 (bytesOf 4 (section .number)) after (bytes-length 4 (section .number))
-            ∙ ap (λ (k : ℕ). sets report (places .section) (bytesOf 4 k ++ after)) (sym (records-length (messageWidth (header .kind)) sheet (section .number) (section .at)))
+            ∙ sets-then report (places .section) countWidth (bytesOf countWidth (section .number)) after (bytes-length countWidth (section .number))
+            ∙ ap (λ (k : ℕ). sets report (places .section) (bytesOf countWidth k ++ after)) (sym (records-length (messageWidth (header .kind)) sheet (section .number) (section .at)))
 
         line-is : bulkLine identifier outcome faults (totalsOf tally) ≡ bulkLineOf terms table (bulkIn sheet header section) before
         unfolding bulkLineOf

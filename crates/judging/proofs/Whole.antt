@@ -9,10 +9,10 @@ use lib.Seq.{sets}
 use Rattle.wire.specs.Field.{bytesOf}
 use Rattle.wire.proofs.Numbers.{bytes-length}
 use Rattle.wire.proofs.Stores.{sets-then}
-use Rattle.sheet.specs.Sheet.{headerWidth, bulkCount, messageCount, firstSection}
+use Rattle.sheet.specs.Sheet.{countWidth as sheetCount, headerWidth, bulkCount, messageCount, firstSection}
 use Rattle.sheet.proofs.Laws.{whole-facts}
 use Rattle.tally.specs.Room.{mostCounted}
-use Rattle.report.specs.Line.{bulkLineWidth, firstLine, sectionsPlace, reportLength}
+use Rattle.report.specs.Line.{countWidth, bulkLineWidth, firstLine, sectionsPlace, reportLength}
 use Rattle.refusing.specs.Refusals.{Call, refusal}
 use Rattle.refusing.specs.Checking.{Measured, Few, Told}
 use Rattle.refusing.specs.declared.Contents.{Contents}
@@ -20,7 +20,8 @@ use Rattle.refusing.specs.declared.Refusal.{Refusal}
 use Rattle.refusing.specs.declared.Refusal.the-variants.{Date}
 use Rattle.refusing.specs.declared.Checked.{Checked}
 use Rattle.refusing.specs.declared.Checked.the-variants.{Stopped, Fine}
-use Rattle.refusing.proofs.Clear.{some-number, Clear, clear-of}
+use Rattle.refusing.proofs.Clear.{Clear, clear-of}
+use Rattle.refusing.proofs.Numbers.{some-number}
 use Rattle.messages.specs.Ready.{stateOf}
 use Rattle.judging.specs.Outcome.{left, judgement, judgedOf, outcome}
 use Rattle.judging.specs.Ready.{BulksReady, BulksTold}
@@ -56,19 +57,19 @@ module _ (call : Call) (checked : Checked) (contents : Contents) (e : checked �
   pub both-few : (contents .bulks ≤ mostCounted) × (contents .messages ≤ mostCounted)
   both-few = (let b = few .bulks in let m = few .messages in (omega arith, omega arith))
 
-  module _ (counted register' positions' report' : List ℕ) (count : counted ≡ sets (call .report) 0 (bytesOf 4 (contents .bulks)))
+  module _ (counted register' positions' report' : List ℕ) (count : counted ≡ sets (call .report) 0 (bytesOf countWidth (contents .bulks)))
       (judged : BulksTold (call .terms) (call .table) (call .sheet) (contents .bulks) (stateOf (call .register) (call .positions)) counted register' positions' report') where
-    whole-report : report' ≡ sets (call .report) 0 (bytesOf 4 (contents .bulks) ++ judgement call .lines ++ judgement call .sections)
+    whole-report : report' ≡ sets (call .report) 0 (bytesOf countWidth (contents .bulks) ++ judgement call .lines ++ judgement call .sections)
     whole-report =
         let m = passed .1 in
-        let headed : 4 + headerWidth * bulkCount (call .sheet) ≤ length (call .sheet) = whole-facts (call .sheet) (m .whole) .headed in
-        let long : length (judgement call .lines) ≡ bulkLineWidth * contents .bulks = rw (m .bulkCount) (bulk-lines-wide (call .terms) (call .table) (call .sheet) (bulkCount (call .sheet)) 4 (firstSection (call .sheet)) _ headed) in
-        let front : length (bytesOf 4 (contents .bulks) ++ judgement call .lines) ≡ 4 + bulkLineWidth * contents .bulks = length-append (bytesOf 4 (contents .bulks)) _ ∙ (rw (bytes-length 4 (contents .bulks), long)) in
+        let headed : sheetCount + headerWidth * bulkCount (call .sheet) ≤ length (call .sheet) = whole-facts (call .sheet) (m .whole) .headed in
+        let long : length (judgement call .lines) ≡ bulkLineWidth * contents .bulks = rw (m .bulkCount) (bulk-lines-wide (call .terms) (call .table) (call .sheet) (bulkCount (call .sheet)) sheetCount (firstSection (call .sheet)) _ headed) in
+        let front : length (bytesOf countWidth (contents .bulks) ++ judgement call .lines) ≡ sectionsPlace (contents .bulks) = length-append (bytesOf countWidth (contents .bulks)) _ ∙ (rw (bytes-length countWidth (contents .bulks), long)) in
         judged .written
-        ∙ ap (λ (r : List ℕ). sets (sets r 4 (judgement call .lines)) (4 + bulkLineWidth * contents .bulks) (judgement call .sections)) count
-        ∙ ap (λ (r : List ℕ). sets r (4 + bulkLineWidth * contents .bulks) (judgement call .sections)) (sets-then (call .report) 0 4 (bytesOf 4 (contents .bulks)) (judgement call .lines) (bytes-length 4 (contents .bulks)))
-        ∙ ap (λ (k : ℕ). sets (sets (call .report) 0 (bytesOf 4 (contents .bulks) ++ judgement call .lines)) k (judgement call .sections)) (sym (zero-add (4 + bulkLineWidth * contents .bulks)))
-        ∙ sets-then (call .report) 0 (4 + bulkLineWidth * contents .bulks) (bytesOf 4 (contents .bulks) ++ judgement call .lines) (judgement call .sections) front
+        ∙ ap (λ (r : List ℕ). sets (sets r firstLine (judgement call .lines)) (sectionsPlace (contents .bulks)) (judgement call .sections)) count
+        ∙ ap (λ (r : List ℕ). sets r (sectionsPlace (contents .bulks)) (judgement call .sections)) (sets-then (call .report) 0 firstLine (bytesOf countWidth (contents .bulks)) (judgement call .lines) (bytes-length countWidth (contents .bulks)))
+        ∙ ap (λ (k : ℕ). sets (sets (call .report) 0 (bytesOf countWidth (contents .bulks) ++ judgement call .lines)) k (judgement call .sections)) (sym (zero-add (sectionsPlace (contents .bulks))))
+        ∙ sets-then (call .report) 0 (sectionsPlace (contents .bulks)) (bytesOf countWidth (contents .bulks) ++ judgement call .lines) (judgement call .sections) front
 
     length-is : reportLength (contents .bulks) (contents .messages) ≡ reportLength (bulkCount (call .sheet)) (messageCount (call .sheet))
     length-is = (let m = passed .1 in rw (m .bulkCount, m .messageCount))
@@ -76,7 +77,7 @@ module _ (call : Call) (checked : Checked) (contents : Contents) (e : checked �
     report-is : report' ≡ judgedOf call (judgement call) .report
     report-is =
         whole-report
-        ∙ ap (λ (k : ℕ). sets (call .report) 0 (bytesOf 4 k ++ judgement call .lines ++ judgement call .sections)) (passed .1 .bulkCount)
+        ∙ ap (λ (k : ℕ). sets (call .report) 0 (bytesOf countWidth k ++ judgement call .lines ++ judgement call .sections)) (passed .1 .bulkCount)
 
     pub judged-told : (n : ℕ) → n ≡ reportLength (contents .bulks) (contents .messages) → left (Judged n) register' positions' report' ≡ outcome call
     unfolding outcome

@@ -9,7 +9,7 @@ use Rattle.wire.proofs.Numbers.{bytes-length}
 use Rattle.sheet.specs.Sheet.{headerWidth, messageWidth, headerAt, recordsAt, afterMessages, Bulk, bulkAt, bulksFrom, bulkIdentifierOf}
 use Rattle.sheet.proofs.Fields.{bulk-identifier-width}
 use Rattle.rules.specs.declared.Terms.{Terms}
-use Rattle.report.specs.Line.{messageLineWidth, bulkLineWidth}
+use Rattle.report.specs.Line.{countWidth, messageLineWidth, bulkLineWidth}
 use Rattle.report.proofs.Laws.{bulk-line-length}
 use Rattle.messages.specs.Messages.{State, judgeMessages}
 use Rattle.messages.proofs.Widths.{lines-wide}
@@ -17,12 +17,12 @@ use Rattle.judging.specs.Judgement.{falls, bulkLineOf, sectionOf, afterB
 
 module _ (terms : Terms) (table sheet : List ℕ) where
   pub section-wide : (bulk : Bulk) (kind n at : ℕ) (before : State) → bulk .messages ≡ recordsAt (messageWidth kind) sheet n at → at + messageWidth kind * n ≤ length sheet
-      → length (sectionOf terms table bulk before) ≡ 4 + messageLineWidth * n
+      → length (sectionOf terms table bulk before) ≡ countWidth + messageLineWidth * n
   unfolding sectionOf
   section-wide bulk kind n at before e h =
       let fallen = falls terms table bulk before in
-      length-append (bytesOf 4 (length (bulk .messages))) _
-      ∙ ap₂ _+_ (bytes-length 4 (length (bulk .messages)))
+      length-append (bytesOf countWidth (length (bulk .messages))) _
+      ∙ ap₂ _+_ (bytes-length countWidth (length (bulk .messages)))
       (ap (λ (ms : List (List ℕ)). length (judgeMessages terms table (bulk .header) fallen ms before .lines)) e ∙ lines-wide terms table (bulk .header) fallen kind sheet n at before h)
 
   pub bulk-line-wide : (bulk : Bulk) (head : ℕ) (before : State) → bulk .header ≡ headerAt sheet head → head + headerWidth ≤ length sheet

@@ -11,7 +11,7 @@ use Rattle.register.specs.Register.{key, bulkTag, add}
 use Rattle.rules.specs.declared.Terms.{Terms}
 use Rattle.faults.specs.Faults.{bulkFaults}
 use Rattle.tally.specs.Tally.{Totals}
-use Rattle.report.specs.Line.{bulkLine}
+use Rattle.report.specs.Line.{countWidth, bulkLine}
 use Rattle.messages.specs.Messages.{State, Judged, sumOf, judgeMessages}
 
 -- the lines of some bulks, the sections of their messages' lines, and the state after them
@@ -55,7 +55,7 @@ module _ (terms : Terms) (table : List ℕ) where
       (messagesJudged bulk before .totals)
 
   unfoldable pub sectionOf : Bulk → State → List ℕ
-  sectionOf bulk before = bytesOf 4 (length (bulk .messages)) ++ messagesJudged bulk before .lines
+  sectionOf bulk before = bytesOf countWidth (length (bulk .messages)) ++ messagesJudged bulk before .lines
 
   -- a bulk with an accepted message is recorded after its messages
   unfoldable pub afterBulk : Bulk → State → State

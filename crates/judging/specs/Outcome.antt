@@ -6,7 +6,7 @@ use lib.Seq.{sets}
 use lib.Dec.{eqb}
 use Rattle.wire.specs.Field.{bytesOf}
 use Rattle.sheet.specs.Sheet.{bulkCount, messageCount, bulksOf}
-use Rattle.report.specs.Line.{reportLength}
+use Rattle.report.specs.Line.{countWidth, reportLength}
 use Rattle.judging.specs.Judgement.{JudgedBulks, judgeBulks}
 use Rattle.refusing.specs.Refusals.{Call, refusalNumber, refusal}
 use Rattle.judging.specs.declared.Answer.{Answer}
@@ -30,7 +30,7 @@ judgement call = judgeBulks (call .terms) (call .table) (bulksOf (call .sheet)) 
 
 -- the bulk lines after their count, then the sections
 abbrev pub reportOf : ℕ → JudgedBulks → List ℕ
-reportOf bulks judged = bytesOf 4 bulks ++ judged .lines ++ judged .sections
+reportOf bulks judged = bytesOf countWidth bulks ++ judged .lines ++ judged .sections
 
 abbrev pub judgedOf : Call → JudgedBulks → Outcome
 judgedOf call judged =

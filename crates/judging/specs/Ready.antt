@@ -12,7 +12,7 @@ use Rattle.sheet.specs.declared.Header.{Header}
 use Rattle.sheet.specs.declared.Section.{Section}
 use Rattle.positions.specs.Positions.{positionWidth}
 use Rattle.rules.specs.declared.Terms.{Terms}
-use Rattle.report.specs.Line.{firstLine, sectionsPlace, messageLineWidth, bulkLineWidth, reportLength}
+use Rattle.report.specs.Line.{firstLine, sectionsPlace, afterLines, bulkLineWidth, reportLength}
 use Rattle.report.specs.declared.Places.{Places}
 use Rattle.refusing.specs.Checking.{Few}
 use Rattle.refusing.specs.declared.Contents.{Contents}
@@ -33,7 +33,7 @@ pub record HeaderReady (sheet table positions : List ℕ) (header : Header) : Ty
 -- the bulk's line lies before its section, and both in the report
 pub record BulkSpace (report : List ℕ) (n : ℕ) (places : Places) : Type 0 where
   pub before : places .line + bulkLineWidth ≤ places .section
-  pub space : places .section + 4 + messageLineWidth * n ≤ length report
+  pub space : afterLines (places .section) n ≤ length report
 
 pub record BulkTold (terms : Terms) (table : List ℕ) (bulk : Bulk) (before : State) (report : List ℕ) (places : Places) (register' positions' report' : List ℕ) : Type 0 where
   pub register : register' ≡ afterBulk terms table bulk before .register

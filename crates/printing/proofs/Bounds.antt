@@ -16,10 +16,10 @@ use Rattle.report.specs.Line.{reportLength}
 use Rattle.refusing.specs.Refusals.{Call, holds, refusals, firstHolding, refusal, refusalNumber}
 use Rattle.judging.specs.Outcome.{Outcome, outcome, left}
 use Rattle.refusing.proofs.Clear.{clear-of}
+use Rattle.refusing.proofs.Numbers.{small-number}
 use Rattle.judging.proofs.Answers.{number-is, outcome-judged}
 use Rattle.judging.specs.declared.Answer.{Answer}
 use Rattle.refusing.specs.declared.Refusal.{Refusal}
-use Rattle.refusing.specs.declared.Refusal.the-variants.{Date, Table, Positions, Register, Sheet, Size, Kind, Order, Room, Limit, Space}
 use Rattle.figures.specs.Figures.{refusalText}
 use Rattle.figures.proofs.Lengths.{refusal-short}
 use Rattle.sections.specs.Sections.{judgedText}
@@ -29,26 +29,13 @@ use Rattle.printing.proofs.Reports.{judgedReport, report-length, report
 
 -- ---- the number of a refusal
 
-small : (r : Refusal) → refusalNumber r < 100
-small Date = lit< tt
-small Table = lit< tt
-small Positions = lit< tt
-small Register = lit< tt
-small Sheet = lit< tt
-small Size = lit< tt
-small Kind = lit< tt
-small Order = lit< tt
-small Room = lit< tt
-small Limit = lit< tt
-small Space = lit< tt
-
 numbers-small : (rs : List Refusal) (call : Call) → firstHolding rs call < 100
 unfolding firstHolding
 numbers-small [] call = lit< tt
 numbers-small (r ∷ rs) call = by-test (holds r call) (numbers-small rs call)
   where
     by-test : (t : Bool) → firstHolding rs call < 100 → cond t (refusalNumber r) (firstHolding rs call) < 100
-    by-test true h = small r
+    by-test true h = small-number r
     by-test false h = h
 
 outcome-number : (call : Call) → outcome call .number < 100

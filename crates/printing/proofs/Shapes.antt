@@ -19,7 +19,7 @@ use Rattle.refusing.specs.Checking.{callOf}
 use Rattle.judging.specs.declared.Answer.{Answer}
 use Rattle.judging.specs.declared.Answer.the-variants.{Refused, Judged}
 use Rattle.refusing.specs.declared.Refusal.{Refusal}
-use Rattle.refusing.proofs.Clear.{some-number}
+use Rattle.refusing.proofs.Numbers.{some-number}
 use Rattle.figures.specs.Figures.{refusalText}
 use Rattle.figures.proofs.Lengths.{refusal-short}
 use Rattle.sections.specs.Sections.{judgedText}

@@ -9,7 +9,6 @@ use native.Mathlib.Nat.{ℕ-set}
 use native.Mathlib.Omega.{arith}
 use lib.Dec.{eqb}
 use borrow.Author.Tests.{eqb-false}
-use lib.ListN.{getD}
 use Rattle.promises.specs.Determined.{Held}
 use Rattle.wire.specs.declared.Halves.{Halves}
 use Rattle.wire.proofs.Halves.{the-row as halves-row}
@@ -38,14 +37,13 @@ use Rattle.tally.specs.declared.Side.{Side}
 use Rattle.tally.specs.declared.Tally.{Tally}
 use Rattle.report.specs.Told.{PlacesTold}
 use Rattle.report.specs.declared.Places.{Places}
-use Rattle.refusing.specs.Refusals.{Call, refusalNumber, refusals, firstHolding}
+use Rattle.refusing.specs.Refusals.{Call, refusalNumber, firstHolding}
 use Rattle.refusing.specs.Checking.{from, Told as CheckTold}
 use Rattle.refusing.specs.declared.Checked.{Checked}
 use Rattle.refusing.specs.declared.Checked.the-variants.{Stopped, Fine}
-use Rattle.refusing.proofs.Clear.{some-number}
+use Rattle.refusing.proofs.Numbers.{some-number, number-tells}
 use Rattle.judging.specs.Outcome.{Outcome, answerNumber, answerLength, left}
 use Rattle.refusing.specs.declared.Refusal.{Refusal}
-use Rattle.refusing.specs.declared.Refusal.the-variants.{Date, Table, Positions, Register, Sheet, Size, Kind, Order, Room, Limit, Space}
 use Rattle.judging.specs.declared.Answer.{Answer}
 use Rattle.judging.specs.declared.Answer.the-variants.{Refused, Judged}
 use Rattle.tynderaxo.specs.Doors.{doorOutcome, routedBy}
@@ -98,56 +96,19 @@ routed-back (Row i false) = refl
 pub routed-one : {table : List ℕ} {e : Routed} {x y : RoutingAnswer} → AnswerTold table x e → AnswerTold table y e → x ≡ y
 routed-one {x = x} {y = y} p q = sym (routed-back x) ∙ ap routedOf (p .is ∙ sym (q .is)) ∙ routed-back y
 
--- the refusal of a number: they are numbered from 1 in their order
-refusalOf : ℕ → Refusal
-refusalOf n = getD refusals (n - 1) Date
-
-refusal-back : (r : Refusal) → refusalOf (refusalNumber r) ≡ r
-unfolding refusalOf
-refusal-back Date = refl
-refusal-back Table = refl
-refusal-back Positions = refl
-refusal-back Register = refl
-refusal-back Sheet = refl
-refusal-back Size = refl
-refusal-back Kind = refl
-refusal-back Order = refl
-refusal-back Room = refl
-refusal-back Limit = refl
-refusal-back Space = refl
-
-refusal-one : {r s : Refusal} → refusalNumber r ≡ refusalNumber s → r ≡ s
-refusal-one {r} {s} e = sym (refusal-back r) ∙ ap refusalOf e ∙ refusal-back s
-
 -- what was checked is a refusal, which has a number, or what the sheet holds
 pub checked-one : (first : Refusal) (call : Call) (x y : Checked) → CheckTold first call x → CheckTold first call y → x ≡ y
-checked-one first call (Stopped r) (Stopped s) p q = ap Stopped (refusal-one (sym p ∙ q))
+checked-one first call (Stopped r) (Stopped s) p q = ap Stopped (number-tells r s (sym p ∙ q))
 checked-one first call (Stopped r) (Fine c) p q = absurd (eqb-false (refusalNumber r) 0 (some-number r) (sym p ∙ q .0))
 checked-one first call (Fine c) (Stopped s) p q = absurd (eqb-false (refusalNumber s) 0 (some-number s) (sym q ∙ p .0))
 checked-one first call (Fine c) (Fine d) p q =
     ap Fine (λ i. record { bulks = (p .1 .bulkCount ∙ sym (q .1 .bulkCount)) i; messages = (p .1 .messageCount ∙ sym (q .1 .messageCount)) i })
 
-answerFrom : ℕ → ℕ → Answer
-answerFrom zero length = Judged length
-answerFrom (suc n) length = Refused (refusalOf (suc n))
-
-answer-back : (x : Answer) → answerFrom (answerNumber x) (answerLength x) ≡ x
-unfolding answerFrom refusalOf
-answer-back (Refused Date) = refl
-answer-back (Refused Table) = refl
-answer-back (Refused Positions) = refl
-answer-back (Refused Register) = refl
-answer-back (Refused Sheet) = refl
-answer-back (Refused Size) = refl
-answer-back (Refused Kind) = refl
-answer-back (Refused Order) = refl
-answer-back (Refused Room) = refl
-answer-back (Refused Limit) = refl
-answer-back (Refused Space) = refl
-answer-back (Judged n) = refl
-
-answer-one : {x y : Answer} → answerNumber x ≡ answerNumber y → answerLength x ≡ answerLength y → x ≡ y
-answer-one {x} {y} e e' = sym (answer-back x) ∙ (λ i. answerFrom (e i) (e' i)) ∙ answer-back y
+answer-one : (x y : Answer) → answerNumber x ≡ answerNumber y → answerLength x ≡ answerLength y → x ≡ y
+answer-one (Refused r) (Refused s) e e' = ap Refused (number-tells r s e)
+answer-one (Refused r) (Judged n) e e' = absurd (eqb-false (refusalNumber r) 0 (some-number r) e)
+answer-one (Judged n) (Refused s) e e' = absurd (eqb-false (refusalNumber s) 0 (some-number s) (sym e))
+answer-one (Judged n) (Judged m) e e' = ap Judged e'
 
 -- ---- a struct is its fields
 
@@ -273,8 +234,8 @@ module _ (ws ws' : Left) where
   outcomeOf vs make = make (vs .1 .1 .1 .0) (vs .1 .1 .1 .1 .0) (vs .1 .1 .1 .1 .1 .0)
 
   pub judged-one : {x y : Answer} → outcomeOf ws (left x) ≡ outcomeOf ws' (left y) → (x ≡ y) × (ws ≡ ws')
-  judged-one e = (
-    answer-one (λ i. e i .number) (λ i. e i .length),
+  judged-one {x} {y} e = (
+    answer-one x y (λ i. e i .number) (λ i. e i .length),
     left-one {ws = ws} {ws' = ws'} (λ i. e i .register) (λ i. e i .positions) (λ i. e i .report),
   )
 

@@ -8,7 +8,7 @@ use Prim.Native.Nat.{ℕ, _+_, _*_, _≤_}
 use lib.Dec.{ltb}
 use lib.ListN.{length}
 use borrow.Author.Tests.{ltb-false}
-use Rattle.sheet.specs.Sheet.{headerWidth, shape}
+use Rattle.sheet.specs.Sheet.{countWidth, headerWidth, shape}
 use Rattle.sheet.proofs.Laws.{whole-facts, shape-facts, shape-none}
 use Rattle.refusing.specs.Refusals.{Call, refusalNumber, mostBulks, mostMessages, holds, firstHolding}
 use Rattle.refusing.specs.Checking.{from, Measured, Few, Told}
@@ -60,5 +60,5 @@ few-told sheet contents m e =
     let parts = both-false (ltb mostBulks (contents .bulks)) (ltb mostMessages (contents .messages)) e in
     record { measured = m; bulks = ltb-false mostBulks (contents .bulks) (parts .0); messages = ltb-false mostMessages (contents .messages) (parts .1) }
 
-pub header-room : (sheet : List ℕ) (contents : Contents) → Measured sheet contents → 4 + headerWidth * contents .bulks ≤ length sheet
+pub header-room : (sheet : List ℕ) (contents : Contents) → Measured sheet contents → countWidth + headerWidth * contents .bulks ≤ length sheet
 header-room sheet contents m = rw (m .bulkCount) (whole-facts sheet (m .whole) .headed)

@@ -12,7 +12,7 @@ use Rattle.register.specs.Register.{free, wellFormed as registerFormed}
 use Rattle.register.specs.Room.{Formed}
 use Rattle.register.proofs.Laws.{formed-told, well-formed}
 use Rattle.positions.specs.Positions.{positionWidth, roomForAll}
-use Rattle.sheet.specs.Sheet.{Bulk, bulkCount, messageCount, bulksOf, firstSection, whole, kindOf, knownKind, paymentKind, returnKind, headersOf, kindsKnown, mixed}
+use Rattle.sheet.specs.Sheet.{countWidth, Bulk, bulkCount, messageCount, bulksOf, firstSection, whole, kindOf, knownKind, paymentKind, returnKind, headersOf, kindsKnown, mixed}
 use Rattle.sheet.proofs.Laws.{bulks-headers}
 use Rattle.rules.specs.OfMessage.{mostCents}
 use Rattle.report.specs.Line.{reportLength}
@@ -20,34 +20,7 @@ use Rattle.refusing.specs.Refusals.{Call, refusalNumber, mostBulks, most
 use Rattle.refusing.specs.Checking.{fromIn, from}
 use Rattle.refusing.specs.declared.Refusal.{Refusal}
 use Rattle.refusing.specs.declared.Refusal.the-variants.{Date, Table, Positions, Register, Sheet, Size, Kind, Order, Room, Limit, Space}
-
--- ---- every refusal has a number, and stands in the order
-
-pub some-number : (r : Refusal) → eqb (refusalNumber r) 0 ≡ false
-some-number Date = refl
-some-number Table = refl
-some-number Positions = refl
-some-number Register = refl
-some-number Sheet = refl
-some-number Size = refl
-some-number Kind = refl
-some-number Order = refl
-some-number Room = refl
-some-number Limit = refl
-some-number Space = refl
-
-listed : (r : Refusal) → (later : List Refusal) × (from r ≡ r ∷ later)
-listed Date = (_, refl)
-listed Table = (_, refl)
-listed Positions = (_, refl)
-listed Register = (_, refl)
-listed Sheet = (_, refl)
-listed Size = (_, refl)
-listed Kind = (_, refl)
-listed Order = (_, refl)
-listed Room = (_, refl)
-listed Limit = (_, refl)
-listed Space = (_, refl)
+use Rattle.refusing.proofs.Numbers.{some-number, listed}
 
 -- ---- where the first that holds is none, none holds
 
@@ -103,7 +76,7 @@ or-false false b e = (refl, e)
 
 -- the headers of a sheet are those of its bulks
 headers-of : (s : List ℕ) → headers (bulksOf s) ≡ headersOf s (bulkCount s)
-headers-of s = bulks-headers s (bulkCount s) 4 (firstSection s)
+headers-of s = bulks-headers s (bulkCount s) countWidth (firstSection s)
 
 pub clear-of : (call : Call) → refusal call ≡ 0 → Clear call
 unfolding holds

@@ -1,2 +1,3 @@
 mod Checking
 pub mod Clear
+pub mod Numbers
