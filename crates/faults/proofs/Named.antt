@@ -1,0 +1,49 @@
+-- The fact that each named bit shows: the names and the lists of facts agree. Assumes nothing.
+use mathlib.Core.Path.{_≡_, refl}
+use mathlib.Core.Bool.{Bool, false}
+use mathlib.Core.List.{List}
+use Prim.Native.Nat.{ℕ}
+use lib.ListN.{getD}
+use Rattle.sheet.specs.Sheet.{kindOf, bulkIdentifierOf, senderOf, statedNumberOf, statedSumOf, valueDateOf, marksOf, identifierOf, receiverOf, amountOf, originalOf, reasonOf, nameOf}
+use Rattle.register.specs.Register.{messageTag, bulkTag}
+use Rattle.wording.specs.Wording.{badlyFormed}
+use Rattle.rules.specs.declared.Terms.{Terms}
+use Rattle.rules.specs.OfBulk.{marksWrong, noParticipant, dateWrong, repeated, empty, numberWrong, sumWrong}
+use Rattle.rules.specs.OfMessage.{receiverBadlyFormed, unreachable, amountWrong, tellsOriginal, reasonUnknown, nameUnknown, amountDiffers}
+use Rattle.faults.specs.Bits.{marksWrongBit, noParticipantBit, dateWrongBit, bulkBadlyFormedBit, bulkRepeatedBit, emptyBit, numberWrongBit, sumWrongBit, badlyFormedBit, repeatedBit, receiverBadlyFormedBit, unreachableBit, amountWrongBit, tellsOriginalBit, reasonUnknownBit, nameUnknownBit, amountDiffersBit}
+use Rattle.faults.specs.Faults.{senderRow, receiverRow, bulkFacts, messageFacts}
+
+module _ (terms : Terms) (table register header : List ℕ) (number sum : ℕ) where
+  abbrev ofBulk : ℕ → Bool
+  ofBulk bit = getD (bulkFacts terms table register header number sum) bit false
+
+  pub record BulkBits : Type 0 where
+    pub atMarksWrongBit : ofBulk marksWrongBit ≡ marksWrong (marksOf header)
+    pub atNoParticipantBit : ofBulk noParticipantBit ≡ noParticipant table (senderRow terms table header)
+    pub atDateWrongBit : ofBulk dateWrongBit ≡ dateWrong terms (valueDateOf header)
+    pub atBulkBadlyFormedBit : ofBulk bulkBadlyFormedBit ≡ badlyFormed (bulkIdentifierOf header)
+    pub atBulkRepeatedBit : ofBulk bulkRepeatedBit ≡ repeated register (senderOf header) (bulkIdentifierOf header) bulkTag
+    pub atEmptyBit : ofBulk emptyBit ≡ empty number
+    pub atNumberWrongBit : ofBulk numberWrongBit ≡ numberWrong (statedNumberOf header) number
+    pub atSumWrongBit : ofBulk sumWrongBit ≡ sumWrong (statedSumOf header) sum
+
+  pub bulk-bits : BulkBits
+  bulk-bits = record { atMarksWrongBit = refl; atNoParticipantBit = refl; atDateWrongBit = refl; atBulkBadlyFormedBit = refl; atBulkRepeatedBit = refl; atEmptyBit = refl; atNumberWrongBit = refl; atSumWrongBit = refl }
+
+module _ (terms : Terms) (table register header message : List ℕ) where
+  abbrev ofMessage : ℕ → Bool
+  ofMessage bit = getD (messageFacts terms table register header message) bit false
+
+  pub record MessageBits : Type 0 where
+    pub atBadlyFormedBit : ofMessage badlyFormedBit ≡ badlyFormed (identifierOf message)
+    pub atRepeatedBit : ofMessage repeatedBit ≡ repeated register (senderOf header) (identifierOf message) messageTag
+    pub atReceiverBadlyFormedBit : ofMessage receiverBadlyFormedBit ≡ receiverBadlyFormed (receiverOf message)
+    pub atUnreachableBit : ofMessage unreachableBit ≡ unreachable table (receiverRow terms table message)
+    pub atAmountWrongBit : ofMessage amountWrongBit ≡ amountWrong (amountOf message)
+    pub atTellsOriginalBit : ofMessage tellsOriginalBit ≡ tellsOriginal (kindOf header) (originalOf message) (reasonOf message) (nameOf message)
+    pub atReasonUnknownBit : ofMessage reasonUnknownBit ≡ reasonUnknown (kindOf header) (reasonOf message)
+    pub atNameUnknownBit : ofMessage nameUnknownBit ≡ nameUnknown (kindOf header) (nameOf message)
+    pub atAmountDiffersBit : ofMessage amountDiffersBit ≡ amountDiffers (kindOf header) (amountOf message) (originalOf message)
+
+  pub message-bits : MessageBits
+  message-bits = record { atBadlyFormedBit = refl; atRepeatedBit = refl; atReceiverBadlyFormedBit = refl; atUnreachableBit = refl; atAmountWrongBit = refl; atTellsOriginalBit = refl; atReasonUnknownBit = refl; atNameUnknownBit = refl; atAmountDiffersBit = refl }
