@@ -1,6 +1,6 @@
--- The contract of each public function determines what a call of it comes to: the result, and every byte left in what was lent. Here:
--- those over bytes and texts, which know of no file. There is a statement for each function, and `.ci/determined` asks that none is missing. Of a slice
--- that is handed back, the bytes are read: no contract says where they lie. Assumes nothing.
+-- The contract of each public function determines what a call of it comes to: the result, and every byte left in what was lent.
+-- Here: those over bytes and texts, which know of no file. There is a statement for each function, and `.ci/determined` asks that
+-- none is missing. Of a slice that is handed back the bytes are read: no contract says where they lie. Assumes nothing.
 use mathlib.Core.Path.{refl, sym, _∙_}
 use mathlib.Core.List.{List}
 use Prim.Native.Nat.{ℕ}

@@ -34,12 +34,12 @@ use Rattle.promises.proofs.Said.{Stands, paid, said-bulk, rest-there}
 
 -- ---- the parts of a key have their widths
 
-pub parts-of : (header : List ℕ) (kind : ℕ) (message : List ℕ) → length header ≡ headerWidth → length message ≡ messageWidth kind
+pub key-parts : (header : List ℕ) (kind : ℕ) (message : List ℕ) → length header ≡ headerWidth → length message ≡ messageWidth kind
     → Parts (senderOf header) (identifierOf message)
-parts-of header kind message h m = record { senderWide = sender-long header h; identifierWide = identifier-long kind message m }
+key-parts header kind message h m = record { senderWide = sender-long header h; identifierWide = identifier-long kind message m }
 
-pub bulk-parts : (header : List ℕ) → length header ≡ headerWidth → Parts (senderOf header) (bulkIdentifierOf header)
-bulk-parts header h = record { senderWide = sender-long header h; identifierWide = bulk-identifier-long header h }
+pub own-key-parts : (header : List ℕ) → length header ≡ headerWidth → Parts (senderOf header) (bulkIdentifierOf header)
+own-key-parts header h = record { senderWide = sender-long header h; identifierWide = bulk-identifier-long header h }
 
 module _ (terms : Terms) (table : List ℕ) where
   -- ---- what the messages of a bulk come to
@@ -159,7 +159,7 @@ module _ (terms : Terms) (table : List ℕ) where
       (paid-wide header wide fallen kind ms (afterMessage terms table header fallen m before) (all .1))
     where
       by-verdict : (v : Bool) (later : List Payment) → AllKeys (map keyOf later) → AllKeys (map keyOf (cond v (paymentOf header m ∷ later) later))
-      by-verdict true later rest = (key-length (senderOf header) (identifierOf m) messageTag (parts-of header kind m wide (all .0)), rest)
+      by-verdict true later rest = (key-length (senderOf header) (identifierOf m) messageTag (key-parts header kind m wide (all .0)), rest)
       by-verdict false later rest = rest
 
   paid-few : (header : List ℕ) (taken : List Payment) → length (ownKey header taken) ≤ 1
@@ -169,7 +169,7 @@ module _ (terms : Terms) (table : List ℕ) where
   own-wide : (header : List ℕ) → length header ≡ headerWidth → (taken : List Payment) → AllKeys (ownKey header taken)
   unfolding AllKeys
   own-wide header wide [] = tt
-  own-wide header wide (p ∷ ps) = (key-length (senderOf header) (bulkIdentifierOf header) bulkTag (bulk-parts header wide), tt)
+  own-wide header wide (p ∷ ps) = (key-length (senderOf header) (bulkIdentifierOf header) bulkTag (own-key-parts header wide), tt)
 
   record Few (bs : List Bulk) (es : List (List ℕ)) : Type 0 where
     wide : AllKeys es

@@ -12,7 +12,7 @@ use borrow.Author.Tests.{eqb-true, leb-true, not-true, not-false}
 use Rattle.wire.specs.Field.{Bytes}
 use Rattle.masks.proofs.Laws.{mask-zero}
 use Rattle.routing.specs.Table.{rows}
-use Rattle.routing.specs.Lookup.{headOffice, reachable, participates}
+use Rattle.routing.specs.Lookup.{headOffice}
 use Rattle.routing.proofs.Laws.{row-below, route-below, reachable-row, participates-row}
 use Rattle.register.specs.Register.{key, messageTag, bulkTag, used, room, free, stands, add}
 use Rattle.register.specs.Room.{Formed}

@@ -2,7 +2,7 @@
 -- Assumes nothing.
 use mathlib.Core.Path.{_≡_, refl, sym, ap, _∙_}
 use mathlib.Core.Bool.{true, false, cond}
-use mathlib.Core.List.{List, [], _∷_, List·isSet}
+use mathlib.Core.List.{List, List·isSet}
 use mathlib.Core.Option.{Option, none, some}
 use Prim.Native.Nat.{ℕ, zero, suc, _+_, _-_, _*_, _^_, _<_}
 use native.Mathlib.Nat.{ℕ-set}
@@ -37,8 +37,8 @@ use Rattle.tally.specs.declared.Side.{Side}
 use Rattle.tally.specs.declared.Tally.{Tally}
 use Rattle.report.specs.Told.{PlacesTold}
 use Rattle.report.specs.declared.Places.{Places}
-use Rattle.refusing.specs.Refusals.{Call, refusalNumber, firstHolding}
-use Rattle.refusing.specs.Checking.{from, Told as CheckTold}
+use Rattle.refusing.specs.Refusals.{Call, refusalNumber}
+use Rattle.refusing.specs.Checking.{Told as CheckTold}
 use Rattle.refusing.specs.declared.Checked.{Checked}
 use Rattle.refusing.specs.declared.Checked.the-variants.{Stopped, Fine}
 use Rattle.refusing.proofs.Numbers.{some-number, number-tells}

@@ -31,7 +31,7 @@ use Rattle.promises.specs.Runs.{File, callOn, stateAfter, run, withMessa
 use Rattle.promises.proofs.Bulks.{AllWide, Shaped, AllShaped}
 use Rattle.refusing.proofs.Clear.{Clear, clear-of}
 use Rattle.judging.proofs.Answers.{outcome-judged, outcome-refused}
-use Rattle.promises.proofs.Entered.{parts-of, bulk-parts, file-added}
+use Rattle.promises.proofs.Entered.{key-parts, own-key-parts, file-added}
 use Rattle.promises.proofs.Fit.{Sends, Accepted, Fit, has-row, accepted-facts, sends-facts, verdict-facts, after-accepted, after-rejected, moved-pays, fit-less, message-fit, messages-fit, bulk-fit, bulks-fit}
 use Rattle.promises.proofs.Lines.{shaped, bulk-number, message-number}
 use Rattle.promises.proofs.Said.{paid, paidBy, said-judged, said-refused}
@@ -55,7 +55,7 @@ module _ (terms : Terms) (table : List ℕ) where
   unfolding withMessageTag
   bulk-recorded st header e p wide f =
       let new = key (senderOf header) (bulkIdentifierOf header) bulkTag in
-      let parts = bulk-parts header wide in
+      let parts = own-key-parts header wide in
       let enough = f .free in
       let left : used (st .register) < room (st .register) = omega arith in
       let tag = tag-read (senderOf header) (bulkIdentifierOf header) bulkTag parts in
@@ -82,7 +82,7 @@ module _ (terms : Terms) (table : List ℕ) where
     accepted-recorded : messageKeys (add (st .register) new) ≡ messageKeys (st .register) ++ (new ∷ [])
     unfolding withMessageTag
     accepted-recorded =
-        let parts = parts-of header kind message wide wide' in
+        let parts = key-parts header kind message wide wide' in
         let enough = f .free in
         let left : used (st .register) < room (st .register) = omega arith in
         let tag = tag-read (senderOf header) (identifierOf message) messageTag parts in

@@ -16,7 +16,7 @@ use Rattle.sheet.specs.Sheet.{messageWidth, kindOf, Bulk, bulkCount, bulksOf, i
 use Rattle.sheet.proofs.Fields.{identifier-long}
 use Rattle.rules.specs.declared.Terms.{Terms}
 use Rattle.faults.proofs.Laws.{message-few}
-use Rattle.report.specs.Line.{messageLineWidth, outcomeIn, countWidth, sectionsPlace, linesAt, afterLines}
+use Rattle.report.specs.Line.{messageLineWidth, countWidth, sectionsPlace, linesAt, afterLines}
 use Rattle.report.proofs.Fields.{LineRead, message-line-read}
 use Rattle.messages.specs.Messages.{State, isAccepted, messageAccepted, messageRejected, messageFell, messageOutcome, faultsOf, lineOf, afterMessage, judgeMessages}
 use Rattle.judging.specs.Judgement.{falls, messagesJudged, sectionOf, afterBulk, judgeBulks}

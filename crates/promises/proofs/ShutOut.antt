@@ -3,7 +3,7 @@
 use mathlib.Core.Path.{_≡_, refl, sym, ap, _∙_}
 use mathlib.Core.Bool.{Bool, true, _&&_, false≢true, and-eq-true-iff}
 use mathlib.Core.List.{List, [], _∷_, _++_}
-use Prim.Native.Nat.{ℕ, zero, suc, _-_, _/_}
+use Prim.Native.Nat.{ℕ, zero, suc, _+_, _-_, _*_, _/_}
 use Prim.Native.String.{String}
 use native.Mathlib.Omega.{arith}
 use lib.Dec.{lit<, lit≤, ltb}
@@ -15,9 +15,9 @@ use Rattle.wire.specs.Places.{firstFrom, everyFrom}
 use Rattle.calendar.specs.Date.{isDate, daysIn, leap}
 use Rattle.routing.specs.Table.{wellFormed, kindsKnown}
 use Rattle.routing.specs.Lookup.{rowOf, route}
-use Rattle.register.specs.Register.{key, bulkTag, tagPlace, entry, used, entriesTo, search, stands, add, wellFormed as registerFormed}
-use Rattle.positions.specs.Positions.{roomForAll, gains, loses}
-use Rattle.sheet.specs.Sheet.{identifierWidth, messageWidth, recordsAt, bulksFrom, endFrom, messagesFrom, whole, shape, mixed, kindsKnown as sheetKinds}
+use Rattle.register.specs.Register.{key, bulkTag, tagPlace, entryWidth, entry, usedWidth, used, entriesTo, search, stands, add, wellFormed as registerFormed}
+use Rattle.positions.specs.Positions.{positionWidth, roomForAll, gains, loses}
+use Rattle.sheet.specs.Sheet.{identifierWidth, reasonWidth, nameWidth, messageWidth, recordsAt, bulksFrom, endFrom, messagesFrom, whole, shape, mixed, kindsKnown as sheetKinds}
 use Rattle.wording.specs.Wording.{among, allowed, kept, formed, badlyFormed, bicFormed, blank, oneOf}
 use Rattle.rules.specs.declared.Terms.{Terms}
 use Rattle.rules.specs.Terms.{dated}
@@ -54,7 +54,7 @@ header identifier number sum =
     bytesOf 1 1 ++ padded identifierWidth identifier ++ text "AAAALV22" ++ bytesOf 8 number ++ bytesOf 8 sum ++ bytesOf 4 20260615 ++ bytesOf 1 3
 
 abbrev message : String → ℕ → List ℕ
-message identifier amount = padded identifierWidth identifier ++ text "BBBBLV22XXX" ++ bytesOf 8 amount ++ bytesOf 8 0 ++ padded 19 ""
+message identifier amount = padded identifierWidth identifier ++ text "BBBBLV22XXX" ++ bytesOf 8 amount ++ bytesOf 8 0 ++ padded (reasonWidth + nameWidth) ""
 
 -- one bulk of one message
 abbrev one : List ℕ
@@ -87,14 +87,14 @@ abbrev table : List ℕ
 table = bytesOf 4 2 ++ row "AAAALV22XXX" ++ row "BBBBLV22XXX"
 
 abbrev empty : List ℕ
-empty = bytesOf 4 0 ++ replicate 176 0
+empty = bytesOf usedWidth 0 ++ replicate (4 * entryWidth) 0
 
 abbrev start : State
-start = record { register = empty; positions = replicate 16 0 }
+start = record { register = empty; positions = replicate (2 * positionWidth) 0 }
 
 abbrev callOn : List ℕ → Call
 callOn sheet =
-    record { terms = today; sheet = sheet; table = table; register = empty; positions = replicate 16 0; report = replicate 300 0 }
+    record { terms = today; sheet = sheet; table = table; register = empty; positions = replicate (2 * positionWidth) 0; report = replicate 300 0 }
 
 -- the bulk D1 stands in the register
 abbrev repeated : Call
@@ -103,17 +103,17 @@ repeated =
       terms = today;
       sheet = fallen;
       table = table;
-      register = bytesOf 4 1 ++ key (text "AAAALV22") (padded identifierWidth "D1") bulkTag ++ replicate 176 0;
-      positions = replicate 16 0;
+      register = bytesOf usedWidth 1 ++ entry (key (text "AAAALV22") (padded identifierWidth "D1") bulkTag) ++ replicate (4 * entryWidth) 0;
+      positions = replicate (2 * positionWidth) 0;
       report = replicate 300 0;
     }
 
 abbrev file : List ℕ → File
 file sheet = record { sheet = sheet; space = replicate 300 0 }
 
-no-cents : Bytes (replicate 16 0)
+no-cents : Bytes (replicate (2 * positionWidth) 0)
 unfolding allBytes
-no-cents = bytes-by (replicate 16 0) refl
+no-cents = bytes-by (replicate (2 * positionWidth) 0) refl
 
 in-bytes : (sheet : List ℕ) → allBytes sheet ≡ true → InBytes (callOn sheet)
 unfolding allBytes bytesOf
@@ -127,7 +127,7 @@ in-bytes sheet e =
     }
 
 repeated-in-bytes : InBytes repeated
-unfolding allBytes bytesOf
+unfolding allBytes bytesOf entry
 repeated-in-bytes =
     record {
       sheet = bytes-by (repeated .sheet) refl;

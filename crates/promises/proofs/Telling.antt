@@ -19,7 +19,7 @@ use Rattle.report.specs.Line.{messageLineWidth, bulkLineWidth, countWidth, firs
 use Rattle.report.proofs.Fields.{BulkLineRead, bulk-line-read}
 use Rattle.refusing.specs.Refusals.{mostMessages}
 use Rattle.refusing.proofs.Clear.{clear-of}
-use Rattle.messages.specs.Messages.{State, messageOutcome, sumOf, faultsOf, lineOf, afterMessage, judgeMessages}
+use Rattle.messages.specs.Messages.{State, messageOutcome, sumOf, lineOf, afterMessage, judgeMessages}
 use Rattle.messages.proofs.Demands.{message-shows}
 use Rattle.judging.specs.Judgement.{bulkAccepted, bulkPartial, bulkRejected, bulkOutcome, faultsOfBulk, falls, messagesJudged, bulkLineOf, sectionOf, afterBulk, judgeBulks}
 use Rattle.judging.specs.Outcome.{judgement, judgedOf, outcome}

@@ -9,7 +9,7 @@ use lib.Dec.{eqb}
 use lib.IntN.{ℤ, pos, negℤ, _+ℤ_, _-ℤ_, +ℤ-assoc, +ℤ-comm, +ℤ-idr, pos-+ℤ-pos, negℤ-+ℤ}
 use Rattle.wire.specs.Field.{same, numberAt}
 use Rattle.wire.proofs.Texts.{same-itself}
-use Rattle.register.specs.Register.{key, messageTag, tagPlace, keysOf, listed, stands}
+use Rattle.register.specs.Register.{key, messageTag, tagPlace, keysOf, listed}
 use Rattle.register.proofs.Laws.{stands-listed}
 use Rattle.positions.specs.Positions.{positionAt, signed}
 use Rattle.rules.specs.declared.Terms.{Terms}

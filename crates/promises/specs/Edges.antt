@@ -5,9 +5,10 @@ use mathlib.Core.List.{List, [], _∷_, _++_}
 use lib.ListN.{length, replicate}
 use Rattle.wire.specs.Field.{text, bytesOf}
 use Rattle.sheet.specs.Sheet.{identifierWidth, reasonWidth, nameWidth, paymentKind, returnKind}
-use Rattle.register.specs.Register.{key, entryWidth, entry, bulkTag}
+use Rattle.register.specs.Register.{key, bulkTag, entryWidth, entry, usedWidth}
+use Rattle.positions.specs.Positions.{positionWidth}
 use Rattle.rules.specs.Terms.{dated}
-use Rattle.report.specs.Line.{faultsIn, firstLine, sectionsPlace, linesAt}
+use Rattle.report.specs.Line.{faultsIn, firstLine, sectionsPlace, linesAt, reportLength}
 use Rattle.refusing.specs.Refusals.{Call}
 use Rattle.judging.specs.Outcome.{Outcome}
 use Rattle.promises.specs.Reading.{bulkLineFrom, messageLineFrom}
@@ -63,9 +64,9 @@ edgeCall c =
       terms = dated (c .date);
       sheet = sheetOf c;
       table = bytesOf 4 2 ++ row "AAAALV22XXX" ++ row "BBBBLV22XXX";
-      register = bytesOf 4 (length (c .used)) ++ joined (c .used) ++ replicate (2 * entryWidth) 0;
-      positions = replicate 16 0;
-      report = replicate 110 0;
+      register = bytesOf usedWidth (length (c .used)) ++ joined (c .used) ++ replicate (2 * entryWidth) 0;
+      positions = replicate (2 * positionWidth) 0;
+      report = replicate (reportLength 1 1) 0;
     }
 
 -- ---- what is looked at
