@@ -1,2 +1,3 @@
 pub mod Frame
 pub mod Read
+pub mod Written

@@ -1,5 +1,6 @@
-mod Cases
 pub mod Answers
+pub mod Cases
+pub mod Computing
 pub mod Demands
 mod Rounds
 mod Sections

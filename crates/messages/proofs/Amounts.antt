@@ -1,4 +1,4 @@
--- The true sum of a section's amounts, message by message, and the move of one amount. Assumes nothing.
+-- The true sum of a section's amounts, message by message, and the payment of one. Assumes nothing.
 use mathlib.Core.Path.{_≡_, sym, ap, _∙_}
 use mathlib.Core.Bool.{Bool, true, false}
 use mathlib.Core.List.{List}
@@ -19,7 +19,7 @@ use Rattle.sheet.proofs.Laws.{records-step, records-end, message-bound}
 use Rattle.positions.specs.Positions.{positionWidth, HasRow, pays}
 use Rattle.tally.specs.Room.{mostCounted}
 use Rattle.tally.proofs.Laws.{room}
-use Rattle.messages.specs.Messages.{messageOutcome, moved, sumOf}
+use Rattle.messages.specs.Messages.{messageOutcome, sumOf}
 use Rattle.messages.specs.Ready.{SectionReady}
 
 -- ---- a loop's counter stays a word
@@ -41,16 +41,16 @@ outcome-accepted fallen faults e f = rw (e, eq-eqb faults 0 f)
 pub outcome-rejected : (fallen : Bool) (faults : ℕ) → fallen ≡ false → (faults ≡ 0 → ⊥) → 1 ≡ messageOutcome fallen faults
 outcome-rejected fallen faults e f = rw (e, ne-eqb faults 0 f)
 
--- ---- a move
+-- ---- a payment
 
 pub row-within : (table positions : List ℕ) (i : ℕ) (row : Option ℕ) → length positions ≡ positionWidth * rows table → Below (rows table) row → some i ≡ row → HasRow positions i
 row-within table positions i row places within found =
     let below : i < rows table = rw (← found) at within in
     omega arith
 
-pub moved-told : (positions paid : List ℕ) (a b cents : ℕ) (from to : Option ℕ) → paid ≡ pays positions a b cents → some a ≡ from → some b ≡ to
-    → paid ≡ moved positions from to cents
-moved-told positions paid a b cents from to e ef et = rw (← ef, ← et) e
+pub pays-told : (positions paid : List ℕ) (a b cents : ℕ) (from to : Option ℕ) → paid ≡ pays positions (some a) (some b) cents → some a ≡ from → some b ≡ to
+    → paid ≡ pays positions from to cents
+pays-told positions paid a b cents from to e ef et = rw (← ef, ← et) e
 
 -- ---- the sum: so much so far, and what is left
 

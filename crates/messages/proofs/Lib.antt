@@ -1,4 +1,5 @@
 mod Amounts
+pub mod Computing
 pub mod Demands
 mod Loops
 mod Sums

@@ -20,8 +20,9 @@ use Rattle.rules.specs.declared.Terms.{Terms}
 use Rattle.faults.specs.Faults.{senderRow, receiverRow}
 use Rattle.faults.specs.Asked.{MessageAsked}
 use Rattle.report.specs.Line.{messageLine, messageLineWidth}
-use Rattle.messages.specs.Messages.{State, isAccepted, messageOutcome, moved, faultsOf, afterMessage, lineOf}
-use Rattle.messages.specs.Ready.{MoveReady, RulingReady, MessageReady, MessageTold}
+use Rattle.positions.specs.Positions.{pays}
+use Rattle.messages.specs.Messages.{State, isAccepted, messageOutcome, faultsOf, afterMessage, lineOf}
+use Rattle.messages.specs.Ready.{PayReady, RulingReady, MessageReady, MessageTold}
 use Rattle.messages.specs.declared.Ruling.{Ruling}
 
 -- ---- what the callees ask
@@ -51,8 +52,8 @@ module _ (terms : Terms) (sheet table positions : List ℕ) (ruling : Ruling) (r
         identifierWide = identifier-wide sheet message out to identifier there ei;
       }
 
-  pub move-ready : (to expected : Option ℕ) → RowTold table to expected → MoveReady table positions (optionOf (ruling .row)) to
-  move-ready to expected told = record { places = ready .places; fromWithin = ready .rowFound .within; toWithin = told .within }
+  pub pay-ready : (to expected : Option ℕ) → RowTold table to expected → PayReady table positions (optionOf (ruling .row)) to
+  pay-ready to expected told = record { places = ready .places; fromWithin = ready .rowFound .within; toWithin = told .within }
 
   -- what a loop hands on
   pub ruling-kept : (positions' : List ℕ) → length positions' ≡ length positions → RulingReady terms sheet table positions' ruling
@@ -73,7 +74,7 @@ module _ (terms : Terms) (table header : List ℕ) (fallen : Bool) (message : Li
   pub accepted-told : (not fallen && eqb faults 0) ≡ true
       → (sender register' : List ℕ) → sender ≡ senderOf header → register' ≡ add (before .register) (key sender identifier messageTag)
       → (from to : Option ℕ) (amount : ℕ) (positions' : List ℕ) → from ≡ senderRow terms table header → to ≡ receiverRow terms table message
-      → amount ≡ amountOf message → positions' ≡ moved (before .positions) from to amount
+      → amount ≡ amountOf message → positions' ≡ pays (before .positions) from to amount
       → MessageTold terms table header fallen message before at out register' positions' out' true
   unfolding afterMessage
   accepted-told clean sender register' es er from to amount positions' ef et ea ep =

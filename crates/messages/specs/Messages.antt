@@ -3,7 +3,6 @@
 use Prim.Native.Nat.{ℕ, _+_}
 use mathlib.Core.Bool.{Bool, cond, not, _&&_}
 use mathlib.Core.List.{List, [], _∷_, _++_}
-use mathlib.Core.Option.{Option, none, some}
 use lib.Dec.{eqb}
 use Rattle.sheet.specs.Sheet.{senderOf, identifierOf, amountOf}
 use Rattle.register.specs.Register.{key, messageTag, add}
@@ -43,12 +42,6 @@ messageFell = 2
 abbrev pub messageOutcome : Bool → ℕ → ℕ
 messageOutcome fallen faults = cond fallen messageFell (cond (eqb faults 0) messageAccepted messageRejected)
 
--- a payment from the sender's row to the receiver's, where both were found
-abbrev pub moved : List ℕ → Option ℕ → Option ℕ → ℕ → List ℕ
-moved positions none to cents = positions
-moved positions (some from) none cents = positions
-moved positions (some from) (some to) cents = pays positions from to cents
-
 -- the true sum of all amounts, however large
 unfoldable pub sumOf : List (List ℕ) → ℕ
 sumOf [] = 0
@@ -57,12 +50,12 @@ sumOf (m ∷ ms) = amountOf m + sumOf ms
 -- ---- by the call's terms, with a table
 
 module _ (terms : Terms) (table : List ℕ) where
-  -- an accepted message is recorded, and moves its amount
+  -- an accepted message is recorded, and its amount is paid
   abbrev pub afterAccepted : List ℕ → List ℕ → State → State
   afterAccepted header message before =
       record {
         register = add (before .register) (key (senderOf header) (identifierOf message) messageTag);
-        positions = moved (before .positions) (senderRow terms table header) (receiverRow terms table message) (amountOf message);
+        positions = pays (before .positions) (senderRow terms table header) (receiverRow terms table message) (amountOf message);
       }
 
   abbrev pub faultsOf : List ℕ → List ℕ → State → ℕ

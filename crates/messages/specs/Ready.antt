@@ -37,9 +37,9 @@ pub record SectionReady (sheet : List ℕ) (kind : ℕ) (section : Section) : Ty
   pub within : section .at + messageWidth kind * section .number ≤ length sheet
   pub few : section .number ≤ mostCounted
 
--- ---- the two rows of a move are rows
+-- ---- the two rows of a payment are rows
 
-pub record MoveReady (table positions : List ℕ) (from to : Option ℕ) : Type 0 where
+pub record PayReady (table positions : List ℕ) (from to : Option ℕ) : Type 0 where
   pub places : length positions ≡ positionWidth * rows table
   pub fromWithin : Below (rows table) from
   pub toWithin : Below (rows table) to

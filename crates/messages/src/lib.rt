@@ -5,10 +5,11 @@ ghost use Prim.Native.Nat.{_*_, _≤_};
 ghost use lib.ListN.{length};
 ghost use Rattle.routing.specs.Lookup.{optionOf};
 ghost use Rattle.sheet.specs.Reading.{headerIn, messageIn};
+ghost use Rattle.positions.specs.Positions.{pays};
 ghost use Rattle.tally.specs.Tally.{centsOf, totalsOf, withAccepted, withRejected};
 ghost use Rattle.report.specs.Line.{messageLineWidth};
-ghost use Rattle.messages.specs.Messages.{messageOutcome, moved, sumOf};
-ghost use Rattle.messages.specs.Ready.{stateOf, messagesOf, SectionReady, MoveReady, CountReady, RulingReady, MessageReady, MessageTold, MessagesTold};
+ghost use Rattle.messages.specs.Messages.{messageOutcome, sumOf};
+ghost use Rattle.messages.specs.Ready.{stateOf, messagesOf, SectionReady, PayReady, CountReady, RulingReady, MessageReady, MessageTold, MessagesTold};
 use routing::Found;
 use rules::Terms;
 use sheet::Cursor;
@@ -52,10 +53,10 @@ pub fn sum_of(sheet: &[u8], kind: u8, section: Section) -> Cents
     sum
 }
 
-// Moves an amount from one row to another, where both were found.
-fn move_amount(table: &[u8], positions: &mut [u8], from: Found, to: Found, cents: u64)
-    requires { ⌜ MoveReady (now table) (now positions) (optionOf from) (optionOf to) ⌝ }
-    ensures { λ _. ⌜ now (positions .exit) ≡ moved (now (positions .entry)) (optionOf from) (optionOf to) cents ⌝ }
+// A payment from one row to another, where both were found.
+fn pay(table: &[u8], positions: &mut [u8], from: Found, to: Found, cents: u64)
+    requires { ⌜ PayReady (now table) (now positions) (optionOf from) (optionOf to) ⌝ }
+    ensures { λ _. ⌜ now (positions .exit) ≡ pays (now (positions .entry)) (optionOf from) (optionOf to) cents ⌝ }
 {
     match from {
         Found::Row(a) => match to {
@@ -115,7 +116,7 @@ fn judge_message(
     if !fallen & (faults == 0) {
         let key = register::key_of(header.sender(sheet), identifier, register::MESSAGE);
         register::add(register, &key);
-        move_amount(table, positions, row, found, message.amount);
+        pay(table, positions, row, found, message.amount);
         true
     } else {
         false

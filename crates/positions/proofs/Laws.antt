@@ -2,6 +2,7 @@
 use mathlib.Core.Path.{_≡_, refl, sym, ap, _∙_}
 use mathlib.Core.Logic.{⊎-elim}
 use mathlib.Core.Bool.{Bool, true, false, _&&_}
+use mathlib.Core.Option.{some}
 use mathlib.Core.List.{List}
 use Prim.Native.Nat.{ℕ, _+_, _-_, _/_, _*_, _%_, _^_, _≤_, _<_}
 use native.Mathlib.Nat.{sub-zero}
@@ -91,9 +92,9 @@ module _ (p : List ℕ) (i c : ℕ) where
     loses-here = stored-here p i (positionAt p i + (2 ^ 64 - c)) row
 
     -- a row that pays itself ends as it began
-    pub moved-back : Bytes p → c ≤ 2 ^ 64 → pays p i i c ≡ p
+    pub pays-back : Bytes p → c ≤ 2 ^ 64 → pays p (some i) (some i) c ≡ p
     unfolding gains loses
-    moved-back bytes small =
+    pays-back bytes small =
         let x : ℕ = positionAt p i in
         let low : x < 2 ^ 64 = position-below p i bytes row in
         let less : ℕ = x + (2 ^ 64 - c) in
@@ -106,10 +107,10 @@ module _ (p : List ℕ) (i c : ℕ) where
 
 -- ---- a payment: as many bytes, and bytes still
 
-pub pays-length : (p : List ℕ) (s t c : ℕ) → length (pays p s t c) ≡ length p
+pub pays-length : (p : List ℕ) (s t c : ℕ) → length (pays p (some s) (some t) c) ≡ length p
 pays-length p s t c = gains-length (loses p s c) t c ∙ loses-length p s c
 
-pub pays-bytes : (p : List ℕ) (s t c : ℕ) → Bytes p → Bytes (pays p s t c)
+pub pays-bytes : (p : List ℕ) (s t c : ℕ) → Bytes p → Bytes (pays p (some s) (some t) c)
 pays-bytes p s t c bytes = gains-bytes (loses p s c) t c (loses-bytes p s c bytes)
 
 -- ---- the same numbers as the code has them: wrapped already

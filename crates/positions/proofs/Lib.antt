@@ -1,4 +1,5 @@
 pub mod Cases
+pub mod Computing
 pub mod Laws
 pub mod Moves
 pub mod Whole

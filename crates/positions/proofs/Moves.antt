@@ -3,6 +3,7 @@
 use mathlib.Core.Path.{_≡_, refl, sym, ap, _∙_}
 use mathlib.Core.Logic.{⊎-elim}
 use mathlib.Core.Bool.{Bool, true, cond}
+use mathlib.Core.Option.{some}
 use mathlib.Core.List.{List}
 use Prim.Native.Nat.{ℕ, zero, suc, _+_, _-_, _%_, _^_, _≤_, _<_}
 use native.Mathlib.Decide.{ℕ-discrete}
@@ -15,7 +16,7 @@ use Rattle.wire.specs.Field.{Bytes}
 use Rattle.wire.specs.Places.{everyFrom}
 use Rattle.wire.proofs.Sides.{le-or-lt}
 use Rattle.positions.specs.Positions.{HasRow, rows, positionAt, signed, magnitude, mostPosition, hasRoom, roomForAll, loses, pays}
-use Rattle.positions.proofs.Laws.{position-below, loses-length, pays-length, gains-here, gains-other, loses-here, loses-other, moved-back, room-told, room-each}
+use Rattle.positions.proofs.Laws.{position-below, loses-length, pays-length, gains-here, gains-other, loses-here, loses-other, pays-back, room-told, room-each}
 use Rattle.positions.proofs.Whole.{sub-pos, sub-neg, signed-magnitude, bits-gain, bits-loss, loses-exact}
 
 -- ---- a sum lies no further from 0 than its parts together
@@ -72,9 +73,9 @@ pub room-less : (p : List ℕ) (c d : ℕ) → roomForAll p c ≡ true → d ≤
 room-less p c d all less = room-all p d (λ i row. let told = room-told p c i (room-each p c i all row) in omega arith)
 
 -- a payment from row s to row t, which may be one row
-pub moved-room : (p : List ℕ) (s t c d : ℕ) → Bytes p → HasRow p s → HasRow p t
-    → roomForAll p (c + d) ≡ true → roomForAll (pays p s t c) d ≡ true
-moved-room p s t c d bytes from to all = one (ℕ-discrete s t)
+pub pays-room : (p : List ℕ) (s t c d : ℕ) → Bytes p → HasRow p s → HasRow p t
+    → roomForAll p (c + d) ≡ true → roomForAll (pays p (some s) (some t) c) d ≡ true
+pays-room p s t c d bytes from to all = one (ℕ-discrete s t)
   where
     held : (j : ℕ) → HasRow p j → magnitude (positionAt p j) + (c + d) ≤ mostPosition
     held j row = room-told p (c + d) j (room-each p (c + d) j all row)
@@ -84,17 +85,17 @@ moved-room p s t c d bytes from to all = one (ℕ-discrete s t)
         rw (← e, loses-here p s c from) (loss-leaves (positionAt p s) c d (position-below p s bytes from) (held s from))
     other j row (no not-from) = rw (loses-other p s c j not-from) (let told = held j row in omega arith)
 
-    each : (s ≡ t → ⊥) → (j : ℕ) → HasRow p j → Dec (t ≡ j) → magnitude (positionAt (pays p s t c) j) + d ≤ mostPosition
+    each : (s ≡ t → ⊥) → (j : ℕ) → HasRow p j → Dec (t ≡ j) → magnitude (positionAt (pays p (some s) (some t) c) j) + d ≤ mostPosition
     each apart j row (yes e) =
         rw (← e, gains-here (loses p s c) t c (rw (loses-length p s c) to), loses-other p s c t apart)
         (gain-leaves (positionAt p t) c d (position-below p t bytes to) (held t to))
     each apart j row (no not-to) = rw (gains-other (loses p s c) t c j not-to) (other j row (ℕ-discrete s j))
 
-    one : Dec (s ≡ t) → roomForAll (pays p s t c) d ≡ true
+    one : Dec (s ≡ t) → roomForAll (pays p (some s) (some t) c) d ≡ true
     one (yes e) =
-        rw (← e, moved-back p s c from bytes (let told = held s from in omega arith)) (room-less p (c + d) d all (omega arith))
+        rw (← e, pays-back p s c from bytes (let told = held s from in omega arith)) (room-less p (c + d) d all (omega arith))
     one (no apart) =
-        room-all (pays p s t c) d
+        room-all (pays p (some s) (some t) c) d
         (λ j row. each apart j (rw (pays-length p s t c) at row) (ℕ-discrete t j))
 
 -- ---- a payment as whole numbers
@@ -104,9 +105,9 @@ abbrev pub share : ℕ → ℕ → ℕ → ℤ
 share k j c = pos (cond (eqb k j) c 0)
 
 -- of every row, also where one row is both and ends unchanged
-pub moved-exact : (p : List ℕ) (s t c j : ℕ) → Bytes p → HasRow p s → HasRow p t
-    → roomForAll p c ≡ true → signed (positionAt (pays p s t c) j) ≡ signed (positionAt p j) -ℤ share s j c +ℤ share t j c
-moved-exact p s t c j bytes from to all = one (ℕ-discrete s t)
+pub pays-exact : (p : List ℕ) (s t c j : ℕ) → Bytes p → HasRow p s → HasRow p t
+    → roomForAll p c ≡ true → signed (positionAt (pays p (some s) (some t) c) j) ≡ signed (positionAt p j) -ℤ share s j c +ℤ share t j c
+pays-exact p s t c j bytes from to all = one (ℕ-discrete s t)
   where
     no-cents : (k : ℤ) → k -ℤ pos 0 ≡ k
     no-cents k = +ℤ-idr k
@@ -116,7 +117,7 @@ moved-exact p s t c j bytes from to all = one (ℕ-discrete s t)
         rw (eq-eqb s j e, ← e) (loses-exact p s c bytes from (room-each p c s all from))
     sent (no differ) = rw (ne-eqb s j differ, loses-other p s c j differ) (sym (no-cents (signed (positionAt p j))))
 
-    got : (s ≡ t → ⊥) → Dec (t ≡ j) → signed (positionAt (pays p s t c) j) ≡ signed (positionAt p j) -ℤ share s j c +ℤ share t j c
+    got : (s ≡ t → ⊥) → Dec (t ≡ j) → signed (positionAt (pays p (some s) (some t) c) j) ≡ signed (positionAt p j) -ℤ share s j c +ℤ share t j c
     got apart (yes e) =
         let told = room-told p c t (room-each p c t all to) in
         rw (eq-eqb t j e, ← e, ne-eqb s t apart, no-cents (signed (positionAt p t)), gains-here (loses p s c) t c (rw (loses-length p s c) to), loses-other p s c t apart)
@@ -124,8 +125,8 @@ moved-exact p s t c j bytes from to all = one (ℕ-discrete s t)
     got apart (no differ) =
         rw (ne-eqb t j differ, gains-other (loses p s c) t c j differ, +ℤ-idr (signed (positionAt p j) -ℤ share s j c)) (sent (ℕ-discrete s j))
 
-    one : Dec (s ≡ t) → signed (positionAt (pays p s t c) j) ≡ signed (positionAt p j) -ℤ share s j c +ℤ share t j c
+    one : Dec (s ≡ t) → signed (positionAt (pays p (some s) (some t) c) j) ≡ signed (positionAt p j) -ℤ share s j c +ℤ share t j c
     one (yes e) =
         let told = room-told p c s (room-each p c s all from) in
-        rw (← e, moved-back p s c from bytes (omega arith)) (sym (-ℤ-+ℤ-cancel (signed (positionAt p j)) (share s j c)))
+        rw (← e, pays-back p s c from bytes (omega arith)) (sym (-ℤ-+ℤ-cancel (signed (positionAt p j)) (share s j c)))
     one (no apart) = got apart (ℕ-discrete t j)

@@ -2,6 +2,7 @@
 use Prim.Native.Nat.{ℕ, _+_, _-_, _*_, _/_, _^_, _≤_}
 use mathlib.Core.Bool.{Bool, cond, not}
 use mathlib.Core.List.{List}
+use mathlib.Core.Option.{Option, none, some}
 use lib.ListN.{length}
 use lib.Seq.{sets}
 use lib.Dec.{leb, ltb, eqb}
@@ -65,6 +66,8 @@ gains positions i cents = sets positions (positionPlace i) (bytesOf positionWidt
 unfoldable pub loses : List ℕ → ℕ → ℕ → List ℕ
 loses positions i cents = sets positions (positionPlace i) (bytesOf positionWidth (positionAt positions i + (2 ^ 64 - cents)))
 
--- a payment from one row to another, or to itself
-abbrev pub pays : List ℕ → ℕ → ℕ → ℕ → List ℕ
-pays positions sender receiver cents = gains (loses positions sender cents) receiver cents
+-- a payment from one row to another, or to itself, where both were found
+abbrev pub pays : List ℕ → Option ℕ → Option ℕ → ℕ → List ℕ
+pays positions none to cents = positions
+pays positions (some from) none cents = positions
+pays positions (some from) (some to) cents = gains (loses positions from cents) to cents

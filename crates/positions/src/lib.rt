@@ -1,5 +1,6 @@
 // Positions: the signed cents of each row, in two's complement. Whether they leave room for a file, and a payment.
 ghost use mathlib.Core.Path.{_≡_};
+ghost use mathlib.Core.Option.{some};
 ghost use Rattle.positions.specs.Positions.{HasRow, rows, fits, positionAt, negative, magnitude, hasRoom, roomForAll, gains, loses, pays};
 
 pub const POSITION_WIDTH: usize = 8;
@@ -100,7 +101,7 @@ fn lose(positions: &mut [u8], i: usize, cents: u64)
 // Row `from` pays row `to`, which may be the same, so many cents.
 pub fn pay(positions: &mut [u8], from: usize, to: usize, cents: u64)
     requires { ⌜ (HasRow (now positions) from) × (HasRow (now positions) to) ⌝ }
-    ensures { λ _. ⌜ now (positions .exit) ≡ pays (now (positions .entry)) from to cents ⌝ }
+    ensures { λ _. ⌜ now (positions .exit) ≡ pays (now (positions .entry)) (some from) (some to) cents ⌝ }
 {
     lose(positions, from, cents);
     gain(positions, to, cents);

@@ -19,13 +19,13 @@ use Rattle.register.specs.Room.{Formed}
 use Rattle.register.proofs.Laws.{add-formed, free-add}
 use Rattle.positions.specs.Positions.{positionWidth, HasRow, roomForAll, pays}
 use Rattle.positions.proofs.Laws.{pays-length, pays-bytes}
-use Rattle.positions.proofs.Moves.{room-less, moved-room}
+use Rattle.positions.proofs.Moves.{room-less, pays-room}
 use Rattle.sheet.specs.Sheet.{Bulk, senderOf, identifierOf, receiverOf, amountOf, bulkIdentifierOf, countMessages}
 use Rattle.rules.specs.declared.Terms.{Terms}
 use Rattle.rules.specs.OfMessage.{mostCents, amountWrong}
 use Rattle.faults.specs.Bits.{noParticipantBit, repeatedBit, unreachableBit, amountWrongBit}
 use Rattle.faults.specs.Faults.{senderRow, receiverRow, bulkFacts, bulkFaults, messageFacts, messageFaults}
-use Rattle.messages.specs.Messages.{State, isAccepted, sumOf, moved, faultsOf, afterAccepted, afterMessage, judgeMessages}
+use Rattle.messages.specs.Messages.{State, isAccepted, sumOf, faultsOf, afterAccepted, afterMessage, judgeMessages}
 use Rattle.judging.specs.Judgement.{faultsOfBulk, falls, messagesJudged, afterBulk, judgeBulks}
 
 -- ---- what an accepted message is
@@ -113,7 +113,7 @@ module _ (terms : Terms) (table : List ℕ) where
 
   -- an amount moved
   pay-fit : (st : State) (s t c e p : ℕ) → s < rows table → t < rows table → c ≤ mostCents → Fit st e (suc p)
-      → Fit (record { register = st .register; positions = pays (st .positions) s t c }) e p
+      → Fit (record { register = st .register; positions = pays (st .positions) (some s) (some t) c }) e p
   pay-fit st s t c e p hs ht hc f =
       let positions = st .positions in
       record {
@@ -122,17 +122,17 @@ module _ (terms : Terms) (table : List ℕ) where
         places = pays-length positions s t c ∙ f .places;
         bytes = pays-bytes positions s t c (f .bytes);
         room =
-            moved-room positions s t c (p * mostCents) (f .bytes) (has-row positions s (f .places) hs) (has-row positions t (f .places) ht)
+            pays-room positions s t c (p * mostCents) (f .bytes) (has-row positions s (f .places) hs) (has-row positions t (f .places) ht)
             (room-less positions (suc p * mostCents) (c + p * mostCents) (f .room) (omega arith));
       }
 
   -- ---- a message, the messages of a bulk, a bulk, all bulks
 
   -- what an accepted message moves is a payment between two rows
-  pub moved-pays : (header message : List ℕ) (before : State) (sends : Sends header) (a : Accepted header message before)
-      → moved (before .positions) (senderRow terms table header) (receiverRow terms table message) (amountOf message)
-      ≡ pays (before .positions) (sends .row) (a .row) (amountOf message)
-  moved-pays header message before sends a = rw (sends .found, a .found)
+  pub pays-found : (header message : List ℕ) (before : State) (sends : Sends header) (a : Accepted header message before)
+      → pays (before .positions) (senderRow terms table header) (receiverRow terms table message) (amountOf message)
+      ≡ pays (before .positions) (some (sends .row)) (some (a .row)) (amountOf message)
+  pays-found header message before sends a = rw (sends .found, a .found)
 
   accepted-fit : (header message : List ℕ) (before : State) (e p : ℕ) → Sends header → Accepted header message before → Fit before (suc e) (suc p)
       → Fit (afterAccepted terms table header message before) e p
@@ -140,8 +140,8 @@ module _ (terms : Terms) (table : List ℕ) where
       let new = key (senderOf header) (identifierOf message) messageTag in
       let s = row-below (terms .date) table (headOffice (senderOf header)) (sends .row) (sends .found) in
       let t = route-below (terms .date) table (receiverOf message) (a .row) (a .found) in
-      rw (moved-pays header message before sends a)
-      (entry-fit (record { register = before .register; positions = pays (before .positions) (sends .row) (a .row) (amountOf message) }) new e p
+      rw (pays-found header message before sends a)
+      (entry-fit (record { register = before .register; positions = pays (before .positions) (some (sends .row)) (some (a .row)) (amountOf message) }) new e p
       (pay-fit before (sends .row) (a .row) (amountOf message) (suc e) p s t (a .small) f))
 
   module _ (header : List ℕ) (fallen : Bool) (sends : fallen ≡ false → Sends header) where

@@ -18,7 +18,7 @@ use Rattle.register.specs.Register.{key, messageTag, bulkTag, tagPlace, entry, 
 use Rattle.register.specs.Room.{Parts}
 use Rattle.register.proofs.Laws.{key-length, keys-add, stands-listed}
 use Rattle.positions.specs.Positions.{positionAt, signed}
-use Rattle.positions.proofs.Moves.{share, moved-exact, room-less}
+use Rattle.positions.proofs.Moves.{share, pays-exact, room-less}
 use Rattle.sheet.specs.Sheet.{headerWidth, messageWidth, kindOf, Bulk, bulksOf, messageCount, countMessages, senderOf, identifierOf, receiverOf, amountOf, bulkIdentifierOf}
 use Rattle.rules.specs.declared.Terms.{Terms}
 use Rattle.rules.specs.OfMessage.{mostCents}
@@ -32,7 +32,7 @@ use Rattle.promises.proofs.Bulks.{AllWide, Shaped, AllShaped}
 use Rattle.refusing.proofs.Clear.{Clear, clear-of}
 use Rattle.judging.proofs.Answers.{outcome-judged, outcome-refused}
 use Rattle.promises.proofs.Entered.{key-parts, own-key-parts, file-added}
-use Rattle.promises.proofs.Fit.{Sends, Accepted, Fit, has-row, accepted-facts, sends-facts, verdict-facts, after-accepted, after-rejected, moved-pays, fit-less, message-fit, messages-fit, bulk-fit, bulks-fit}
+use Rattle.promises.proofs.Fit.{Sends, Accepted, Fit, has-row, accepted-facts, sends-facts, verdict-facts, after-accepted, after-rejected, pays-found, fit-less, message-fit, messages-fit, bulk-fit, bulks-fit}
 use Rattle.promises.proofs.Lines.{shaped, bulk-number, message-number}
 use Rattle.promises.proofs.Said.{paid, paidBy, said-judged, said-refused}
 use Rattle.promises.proofs.Tracked.{Fresh, Tracked, tracked-none, tracked-then, tag-append, not-listed, none-twice, all-stand-from}
@@ -104,8 +104,8 @@ module _ (terms : Terms) (table : List ℕ) where
         let s = row-below (terms .date) table (headOffice (senderOf header)) (sends .row) (sends .found) in
         let t = route-below (terms .date) table (receiverOf message) (a .row) (a .found) in
         let small = a .small in
-        ap (λ (ps : List ℕ). signed (positionAt ps j)) (moved-pays terms table header message st sends a)
-        ∙ moved-exact (st .positions) (sends .row) (a .row) cents j (f .bytes) (has-row terms table (st .positions) (sends .row) (f .places) s) (has-row terms table (st .positions) (a .row) (f .places) t)
+        ap (λ (ps : List ℕ). signed (positionAt ps j)) (pays-found terms table header message st sends a)
+        ∙ pays-exact (st .positions) (sends .row) (a .row) cents j (f .bytes) (has-row terms table (st .positions) (sends .row) (f .places) s) (has-row terms table (st .positions) (a .row) (f .places) t)
         (room-less (st .positions) (suc p * mostCents) cents (f .room) (omega arith))
         ∙ swapped (signed (positionAt (st .positions) j)) (share (sends .row) j cents) (share (a .row) j cents)
         ∙ ap₂ (λ (x y : ℕ). signed (positionAt (st .positions) j) +ℤ pos x -ℤ pos y) (sym (to-one j)) (sym (from-one j))

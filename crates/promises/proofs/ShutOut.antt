@@ -7,32 +7,28 @@ use Prim.Native.Nat.{ℕ, zero, suc, _+_, _-_, _*_, _/_}
 use Prim.Native.String.{String}
 use native.Mathlib.Omega.{arith}
 use lib.Dec.{lit<, lit≤, ltb}
-use lib.IntN.{ℤ, natAbs}
+use lib.IntN.{ℤ, pos, natAbs}
 use lib.ListN.{length, getD, replicate}
 use borrow.Author.Tests.{ltb-true}
-use Rattle.wire.specs.Field.{Bytes, text, bytesOf, numberAt, numberFrom, same}
-use Rattle.wire.specs.Places.{firstFrom, everyFrom}
-use Rattle.calendar.specs.Date.{isDate, daysIn, leap}
-use Rattle.routing.specs.Table.{wellFormed, kindsKnown}
-use Rattle.routing.specs.Lookup.{rowOf, route}
-use Rattle.register.specs.Register.{key, bulkTag, tagPlace, entryWidth, entry, usedWidth, used, entriesTo, search, stands, add, wellFormed as registerFormed}
-use Rattle.positions.specs.Positions.{positionWidth, roomForAll, gains, loses}
-use Rattle.sheet.specs.Sheet.{identifierWidth, reasonWidth, nameWidth, messageWidth, recordsAt, bulksFrom, endFrom, messagesFrom, whole, shape, mixed, kindsKnown as sheetKinds}
-use Rattle.wording.specs.Wording.{among, allowed, kept, formed, badlyFormed, bicFormed, blank, oneOf}
+use Rattle.wire.specs.Field.{Bytes, text, numberAt}
+use Rattle.wire.specs.Written.{padded}
+use Rattle.routing.specs.Written.{tableBytes}
+use Rattle.register.specs.Register.{key, bulkTag, tagPlace, used}
+use Rattle.register.specs.Written.{registerBytes}
+use Rattle.positions.specs.Written.{positionsBytes}
+use Rattle.sheet.specs.Sheet.{identifierWidth, Bulk, paymentKind}
+use Rattle.sheet.specs.Written.{headerBytes, paymentBytes, sheetBytes}
 use Rattle.rules.specs.declared.Terms.{Terms}
 use Rattle.rules.specs.Terms.{dated}
-use Rattle.masks.specs.Mask.{mask}
 use Rattle.faults.specs.Bits.{sumWrongBit}
-use Rattle.faults.specs.Faults.{bulkFaults, messageFaults}
-use Rattle.report.specs.Line.{messageLineWidth, bulkLineWidth, bulkLine, messageLine}
-use Rattle.messages.specs.Messages.{State, sumOf, afterMessage, lineOf, counted, judgeMessages}
-use Rattle.judging.specs.Judgement.{bulkLineOf, sectionOf, afterBulk, judgeBulks}
-use Rattle.refusing.specs.Refusals.{Call, holds, firstHolding, refusal}
-use Rattle.judging.specs.Outcome.{outcome}
+use Rattle.report.specs.Line.{bulkLineWidth, reportLength}
+use Rattle.messages.specs.Messages.{State}
+use Rattle.refusing.specs.Refusals.{Call}
+use Rattle.judging.proofs.Computing.{outcomesCompute}
 use Rattle.promises.specs.Reading.{InBytes, acceptedOf, acceptedFrom, accepted, recordedFrom, recorded, withKeys, centsTo, centsFrom}
 use Rattle.promises.specs.Demands.{BulksTell, MessagesTell, centsPaid}
 use Rattle.promises.specs.Runs.{File, run, NoneLike, NoneTwice, withMessageTag, AllStand}
-use Rattle.promises.specs.Edges.{padded, row}
+use Rattle.promises.specs.Edges.{row}
 use Rattle.promises.specs.Wrong.{refusesAll, writesOnRefusal, oneFixedReport, writesNothing, copiesTheFirstLine, makesUpTheNumber, hidesBesideARepeat, dropsALine, copiesTheFirstFile, recordsTheFallen, recordsNothing, movesTheStatedSum, bulksFirst, ShutOut}
 
 -- ---- bytes, by a test
@@ -49,52 +45,59 @@ bytes-by (x ∷ xs) e (suc i) = bytes-by xs (and-eq-true-iff (ltb x 256) (allByt
 
 -- ---- the cases: payments from AAAALV22 to BBBBLV22
 
-abbrev header : String → ℕ → ℕ → List ℕ
-header identifier number sum =
-    bytesOf 1 1 ++ padded identifierWidth identifier ++ text "AAAALV22" ++ bytesOf 8 number ++ bytesOf 8 sum ++ bytesOf 4 20260615 ++ bytesOf 1 3
+-- a bulk with its stated number and sum
+abbrev bulk : String → ℕ → ℕ → List (List ℕ) → Bulk
+bulk identifier number sum messages = record { header = headerBytes paymentKind identifier "AAAALV22" number sum 20260615 3; messages = messages }
 
-abbrev message : String → ℕ → List ℕ
-message identifier amount = padded identifierWidth identifier ++ text "BBBBLV22XXX" ++ bytesOf 8 amount ++ bytesOf 8 0 ++ padded (reasonWidth + nameWidth) ""
+-- a message of one cent
+abbrev message : String → List ℕ
+message identifier = paymentBytes identifier "BBBBLV22XXX" 1
 
 -- one bulk of one message
 abbrev one : List ℕ
-one = bytesOf 4 1 ++ header "D1" 1 1 ++ bytesOf 4 1 ++ message "T1" 1
+one = sheetBytes (bulk "D1" 1 1 (message "T1" ∷ []) ∷ [])
 
 -- another one
 abbrev other : List ℕ
-other = bytesOf 4 1 ++ header "D2" 1 1 ++ bytesOf 4 1 ++ message "T1" 1
+other = sheetBytes (bulk "D2" 1 1 (message "T1" ∷ []) ∷ [])
 
 -- two bulks, both in order
 abbrev both : List ℕ
-both = bytesOf 4 2 ++ header "D1" 1 1 ++ header "D2" 1 1 ++ bytesOf 4 1 ++ message "T1" 1 ++ bytesOf 4 1 ++ message "T2" 1
+both = sheetBytes (bulk "D1" 1 1 (message "T1" ∷ []) ∷ bulk "D2" 1 1 (message "T2" ∷ []) ∷ [])
 
 -- one bulk with a wrong sum
 abbrev fallen : List ℕ
-fallen = bytesOf 4 1 ++ header "D1" 1 2 ++ bytesOf 4 1 ++ message "T1" 1
+fallen = sheetBytes (bulk "D1" 1 2 (message "T1" ∷ []) ∷ [])
 
 -- one bulk whose second message repeats the first
 abbrev partial : List ℕ
-partial = bytesOf 4 1 ++ header "D1" 2 2 ++ bytesOf 4 2 ++ message "T1" 1 ++ message "T1" 1
+partial = sheetBytes (bulk "D1" 2 2 (message "T1" ∷ message "T1" ∷ []) ∷ [])
 
 -- two bulks, the second of which falls
 abbrev two : List ℕ
-two = bytesOf 4 2 ++ header "D1" 1 1 ++ header "D2" 1 2 ++ bytesOf 4 1 ++ message "T1" 1 ++ bytesOf 4 1 ++ message "T2" 1
+two = sheetBytes (bulk "D1" 1 1 (message "T1" ∷ []) ∷ bulk "D2" 1 2 (message "T2" ∷ []) ∷ [])
 
 abbrev today : Terms
 today = dated 20260615
 
 abbrev table : List ℕ
-table = bytesOf 4 2 ++ row "AAAALV22XXX" ++ row "BBBBLV22XXX"
+table = tableBytes (row "AAAALV22XXX" ∷ row "BBBBLV22XXX" ∷ [])
 
 abbrev empty : List ℕ
-empty = bytesOf usedWidth 0 ++ replicate (4 * entryWidth) 0
+empty = registerBytes [] 4
+
+abbrev zeros : List ℕ
+zeros = positionsBytes (pos 0 ∷ pos 0 ∷ [])
+
+-- enough for each of these sheets
+abbrev space : List ℕ
+space = replicate (reportLength 2 2) 0
 
 abbrev start : State
-start = record { register = empty; positions = replicate (2 * positionWidth) 0 }
+start = record { register = empty; positions = zeros }
 
 abbrev callOn : List ℕ → Call
-callOn sheet =
-    record { terms = today; sheet = sheet; table = table; register = empty; positions = replicate (2 * positionWidth) 0; report = replicate 300 0 }
+callOn sheet = record { terms = today; sheet = sheet; table = table; register = empty; positions = zeros; report = space }
 
 -- the bulk D1 stands in the register
 abbrev repeated : Call
@@ -103,38 +106,38 @@ repeated =
       terms = today;
       sheet = fallen;
       table = table;
-      register = bytesOf usedWidth 1 ++ entry (key (text "AAAALV22") (padded identifierWidth "D1") bulkTag) ++ replicate (4 * entryWidth) 0;
-      positions = replicate (2 * positionWidth) 0;
-      report = replicate 300 0;
+      register = registerBytes (key (text "AAAALV22") (padded identifierWidth "D1") bulkTag ∷ []) 4;
+      positions = zeros;
+      report = space;
     }
 
 abbrev file : List ℕ → File
-file sheet = record { sheet = sheet; space = replicate 300 0 }
+file sheet = record { sheet = sheet; space = space }
 
-no-cents : Bytes (replicate (2 * positionWidth) 0)
-unfolding allBytes
-no-cents = bytes-by (replicate (2 * positionWidth) 0) refl
+no-cents : Bytes zeros
+unfolding outcomesCompute allBytes
+no-cents = bytes-by zeros refl
 
 in-bytes : (sheet : List ℕ) → allBytes sheet ≡ true → InBytes (callOn sheet)
-unfolding allBytes bytesOf
+unfolding outcomesCompute allBytes
 in-bytes sheet e =
     record {
       sheet = bytes-by sheet e;
       table = bytes-by table refl;
       register = bytes-by empty refl;
       positions = no-cents;
-      report = bytes-by (replicate 300 0) refl;
+      report = bytes-by space refl;
     }
 
 repeated-in-bytes : InBytes repeated
-unfolding allBytes bytesOf entry
+unfolding outcomesCompute allBytes
 repeated-in-bytes =
     record {
       sheet = bytes-by (repeated .sheet) refl;
       table = bytes-by table refl;
       register = bytes-by (repeated .register) refl;
       positions = no-cents;
-      report = bytes-by (replicate 300 0) refl;
+      report = bytes-by space refl;
     }
 
 -- the tag of the first entry
@@ -145,7 +148,7 @@ zero-is-one : _≡_ {A = ℕ} 0 1 → ⊥
 zero-is-one e = omega arith
 
 pub shut-out : ShutOut
-unfolding allBytes bytesOf numberFrom same firstFrom everyFrom isDate daysIn leap wellFormed kindsKnown rowOf route entry entriesTo search stands add registerFormed roomForAll gains loses messageWidth recordsAt bulksFrom endFrom messagesFrom whole shape mixed sheetKinds among allowed kept formed badlyFormed bicFormed blank oneOf mask bulkFaults messageFaults messageLineWidth bulkLine messageLine sumOf afterMessage lineOf counted judgeMessages bulkLineOf sectionOf afterBulk judgeBulks holds firstHolding refusal outcome acceptedOf acceptedFrom accepted recordedFrom recorded withKeys bulksFirst BulksTell MessagesTell centsPaid run NoneLike NoneTwice withMessageTag AllStand centsTo centsFrom
+unfolding outcomesCompute allBytes acceptedOf acceptedFrom accepted recordedFrom recorded withKeys bulksFirst BulksTell MessagesTell centsPaid run NoneLike NoneTwice withMessageTag AllStand centsTo centsFrom
 shut-out =
     record {
       tellsNothing = λ s. zero-is-one (s (callOn one) (in-bytes one refl) refl .count);
@@ -163,9 +166,9 @@ shut-out =
       writesPastTheEntries = λ s. zero-is-one (sym (ap (λ (e : List ℕ). getD e 0 0) (s (callOn one) (in-bytes one refl) refl .laterPlaces 2 (lit≤ tt))));
       writesPastTheReport = λ s. zero-is-one (sym (ap (λ (r : List ℕ). getD r 0 0) (s (callOn one) (in-bytes one refl) refl .laterBytes)));
       dropsALine = λ s.
-          zero-is-one (ap (λ (l : List ℕ). (length l - bulkLineWidth) / bulkLineWidth) (s (callOn two) (in-bytes two refl) refl 1 (lit≤ tt) (replicate 300 0) (replicate 300 0) (lit≤ tt) (lit≤ tt) .bulkLines));
+          zero-is-one (ap (λ (l : List ℕ). (length l - bulkLineWidth) / bulkLineWidth) (s (callOn two) (in-bytes two refl) refl 1 (lit≤ tt) space space (lit≤ tt) (lit≤ tt) .bulkLines));
       forgetsALoneBulk = λ s.
-          zero-is-one (ap (λ (r : List ℕ). (used r - 2) / 2) (s (callOn both) (in-bytes both refl) refl 1 (lit≤ tt) (replicate 300 0) (replicate 300 0) (lit≤ tt) (lit≤ tt) .register));
+          zero-is-one (ap (λ (r : List ℕ). (used r - 2) / 2) (s (callOn both) (in-bytes both refl) refl 1 (lit≤ tt) space space (lit≤ tt) (lit≤ tt) .register));
       copiesTheFirstFile = (callOn one, (refl, λ s. s today table start (file one ∷ file one ∷ []) no-cents .once .0 .0 (refl, refl)));
       recordsTheFallen = λ s. zero-is-one (sym (ap length (s today table start (file fallen ∷ []) no-cents .messages)));
       recordsNothing = λ s. zero-is-one (ap length (s today table start (file one ∷ []) no-cents .messages));

@@ -1,12 +1,18 @@
 -- The values at the edges that the scope marks for proof: calls, what of their outcome is looked at, and what it must be. Assumes nothing.
-use Prim.Native.Nat.{ℕ, _-_, _*_}
+use Prim.Native.Nat.{ℕ}
 use Prim.Native.String.{String}
-use mathlib.Core.List.{List, [], _∷_, _++_}
-use lib.ListN.{length, replicate}
-use Rattle.wire.specs.Field.{text, bytesOf}
-use Rattle.sheet.specs.Sheet.{identifierWidth, reasonWidth, nameWidth, paymentKind, returnKind}
-use Rattle.register.specs.Register.{key, bulkTag, entryWidth, entry, usedWidth}
-use Rattle.positions.specs.Positions.{positionWidth}
+use mathlib.Core.List.{List, [], _∷_}
+use lib.IntN.{pos}
+use lib.ListN.{replicate}
+use Rattle.wire.specs.Field.{text}
+use Rattle.wire.specs.Written.{padded}
+use Rattle.routing.specs.Table.{participant}
+use Rattle.routing.specs.Written.{rowBytes, tableBytes}
+use Rattle.sheet.specs.Sheet.{identifierWidth, Bulk, paymentKind, returnKind}
+use Rattle.sheet.specs.Written.{headerBytes, messageBytes, sheetBytes}
+use Rattle.register.specs.Register.{key, bulkTag}
+use Rattle.register.specs.Written.{registerBytes}
+use Rattle.positions.specs.Written.{positionsBytes}
 use Rattle.rules.specs.Terms.{dated}
 use Rattle.report.specs.Line.{faultsIn, firstLine, sectionsPlace, linesAt, reportLength}
 use Rattle.refusing.specs.Refusals.{Call}
@@ -15,11 +21,9 @@ use Rattle.promises.specs.Reading.{bulkLineFrom, messageLineFrom}
 
 -- ---- a call of one bulk that holds one message
 
-abbrev pub padded : ℕ → String → List ℕ
-padded n s = text s ++ replicate (n - length (text s)) 32
-
+-- a participant of all dates
 abbrev pub row : String → List ℕ
-row bic = text bic ++ bytesOf 4 20000101 ++ bytesOf 4 22991231 ++ bytesOf 1 5
+row bic = rowBytes bic 20000101 22991231 participant
 
 -- what varies from one case to the next
 pub record Case : Type 0 where
@@ -34,38 +38,22 @@ pub record Case : Type 0 where
   -- the keys of the entries in use
   pub used : List (List ℕ)
 
--- their entries, one after the other
-abbrev pub joined : List (List ℕ) → List ℕ
-joined [] = []
-joined (k ∷ ks) = entry k ++ joined ks
-
-abbrev pub sheetOf : Case → List ℕ
-sheetOf c =
-    bytesOf 4 1
-    ++ bytesOf 1 (c .kind)
-    ++ padded identifierWidth "D1"
-    ++ text "AAAALV22"
-    ++ bytesOf 8 1
-    ++ bytesOf 8 (c .statedSum)
-    ++ bytesOf 4 (c .date)
-    ++ bytesOf 1 3
-    ++ bytesOf 4 1
-    ++ padded identifierWidth (c .identifier)
-    ++ text "BBBBLV22XXX"
-    ++ bytesOf 8 (c .amount)
-    ++ bytesOf 8 (c .original)
-    ++ padded reasonWidth (c .reason)
-    ++ padded nameWidth (c .name)
+abbrev pub bulkOf : Case → Bulk
+bulkOf c =
+    record {
+      header = headerBytes (c .kind) "D1" "AAAALV22" 1 (c .statedSum) (c .date) 3;
+      messages = messageBytes (c .identifier) "BBBBLV22XXX" (c .amount) (c .original) (c .reason) (c .name) ∷ [];
+    }
 
 -- room for two entries more than are in use
 abbrev pub edgeCall : Case → Call
 edgeCall c =
     record {
       terms = dated (c .date);
-      sheet = sheetOf c;
-      table = bytesOf 4 2 ++ row "AAAALV22XXX" ++ row "BBBBLV22XXX";
-      register = bytesOf usedWidth (length (c .used)) ++ joined (c .used) ++ replicate (2 * entryWidth) 0;
-      positions = replicate (2 * positionWidth) 0;
+      sheet = sheetBytes (bulkOf c ∷ []);
+      table = tableBytes (row "AAAALV22XXX" ∷ row "BBBBLV22XXX" ∷ []);
+      register = registerBytes (c .used) 2;
+      positions = positionsBytes (pos 0 ∷ pos 0 ∷ []);
       report = replicate (reportLength 1 1) 0;
     }
 

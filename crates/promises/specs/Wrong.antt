@@ -10,10 +10,11 @@ use Rattle.wire.specs.Field.{part, bytesOf}
 use Rattle.masks.specs.Mask.{shown}
 use Rattle.sheet.specs.Sheet.{Bulk, bulksOf, bulkCount, senderOf, identifierOf, statedSumOf}
 use Rattle.register.specs.Register.{key, messageTag, usedWidth, used, entryPlace, add}
+use Rattle.positions.specs.Positions.{pays}
 use Rattle.faults.specs.Bits.{bulkRepeatedBit}
 use Rattle.faults.specs.Faults.{senderRow, receiverRow}
 use Rattle.report.specs.Line.{faultsPlace, faultsWidth, acceptedNumberPlace, numberWidth, bulkLineWidth, outcomeIn, faultsIn, countWidth, firstLine, sectionsPlace, linesAt, afterLines}
-use Rattle.messages.specs.Messages.{messageFell, moved}
+use Rattle.messages.specs.Messages.{messageFell}
 use Rattle.refusing.specs.Refusals.{Call, refusal}
 use Rattle.judging.specs.Outcome.{Outcome, turnedAway, outcome}
 use Rattle.promises.specs.Reading.{Judge, bulkLineFrom, messageLineFrom, acceptedOf, accepted, keyOf, ownKey, withKeys}
@@ -149,7 +150,7 @@ abbrev pub movesTheStatedSum : Judge
 movesTheStatedSum call =
     whereJudged (λ left.
     withPositions left
-    (moved (call .positions) (senderRow (call .terms) (call .table) (firstBulk call .header)) (receiverRow (call .terms) (call .table) (firstMessage call))
+    (pays (call .positions) (senderRow (call .terms) (call .table) (firstBulk call .header)) (receiverRow (call .terms) (call .table) (firstMessage call))
     (statedSumOf (firstBulk call .header)))) call
 
 -- ---- which statement refuses which

@@ -1,3 +1,4 @@
 mod Checking
 pub mod Clear
+pub mod Computing
 pub mod Numbers

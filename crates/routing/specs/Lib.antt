@@ -1,3 +1,4 @@
 pub mod Table
 pub mod Lookup
 pub mod Promise
+pub mod Written

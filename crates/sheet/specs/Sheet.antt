@@ -8,7 +8,22 @@ use lib.ListN.{length}
 use lib.Dec.{leb, eqb}
 use Rattle.wire.specs.Field.{part, numberAt}
 
--- ---- the widths of texts
+-- ---- the widths of numbers and texts
+
+abbrev pub kindWidth : ℕ
+kindWidth = 1
+
+abbrev pub numberWidth : ℕ
+numberWidth = 8
+
+abbrev pub centsWidth : ℕ
+centsWidth = 8
+
+abbrev pub dateWidth : ℕ
+dateWidth = 4
+
+abbrev pub marksWidth : ℕ
+marksWidth = 1
 
 abbrev pub identifierWidth : ℕ
 identifierWidth = 35
@@ -52,7 +67,7 @@ abbrev pub headerWidth : ℕ
 headerWidth = 65
 
 abbrev pub kindOf : List ℕ → ℕ
-kindOf header = numberAt header kindPlace 1
+kindOf header = numberAt header kindPlace kindWidth
 
 abbrev pub bulkIdentifierOf : List ℕ → List ℕ
 bulkIdentifierOf header = part header bulkIdentifierPlace identifierWidth
@@ -61,16 +76,16 @@ abbrev pub senderOf : List ℕ → List ℕ
 senderOf header = part header senderPlace senderWidth
 
 abbrev pub statedNumberOf : List ℕ → ℕ
-statedNumberOf header = numberAt header statedNumberPlace 8
+statedNumberOf header = numberAt header statedNumberPlace numberWidth
 
 abbrev pub statedSumOf : List ℕ → ℕ
-statedSumOf header = numberAt header statedSumPlace 8
+statedSumOf header = numberAt header statedSumPlace centsWidth
 
 abbrev pub valueDateOf : List ℕ → ℕ
-valueDateOf header = numberAt header valueDatePlace 4
+valueDateOf header = numberAt header valueDatePlace dateWidth
 
 abbrev pub marksOf : List ℕ → ℕ
-marksOf header = numberAt header marksPlace 1
+marksOf header = numberAt header marksPlace marksWidth
 
 -- ---- a message: where each field begins, and where the last one ends
 
@@ -106,10 +121,10 @@ abbrev pub receiverOf : List ℕ → List ℕ
 receiverOf message = part message receiverPlace receiverWidth
 
 abbrev pub amountOf : List ℕ → ℕ
-amountOf message = numberAt message amountPlace 8
+amountOf message = numberAt message amountPlace centsWidth
 
 abbrev pub originalOf : List ℕ → ℕ
-originalOf message = numberAt message originalPlace 8
+originalOf message = numberAt message originalPlace centsWidth
 
 abbrev pub reasonOf : List ℕ → List ℕ
 reasonOf message = part message reasonPlace reasonWidth

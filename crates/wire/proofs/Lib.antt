@@ -1,3 +1,4 @@
+pub mod Computing
 pub mod Numbers
 pub mod Scans
 pub mod Sides
