@@ -6,7 +6,6 @@ ghost use Prim.Native.Nat.{_+_, _*_, _^_, _<_, min};
 ghost use lib.ListN.{length};
 ghost use Rattle.decimals.specs.Decimal.{digitsOf, decimal, field};
 ghost use Rattle.decimals.specs.Printed.{Printed};
-use wire::Halves;
 
 // The place after n bytes from place at on.
 pub fn place_after(at: usize, n: usize, end: usize) -> usize
@@ -78,26 +77,26 @@ pub fn put_field(out: &mut [u8], at: usize, v: u64) -> usize
     put_decimal(out, next, v)
 }
 
-// A number of ten bytes in two halves: divided by 10^9 limb by limb, which leaves nothing that passes 64 bits.
-fn put_wide(out: &mut [u8], at: usize, v: Halves) -> usize
-    requires { ⌜ v .0 < 65536 ⌝ }
-    ensures { λ r. ⌜ Printed (now (out .entry)) (now (out .exit)) at r (decimal (v .0 * 2 ^ 64 + v .1)) ⌝ }
+// A number of ten bytes, as its high and its low half: divided by 10^9 limb by limb, which leaves nothing that passes 64 bits.
+fn put_wide(out: &mut [u8], at: usize, high: u64, low: u64) -> usize
+    requires { ⌜ high < 65536 ⌝ }
+    ensures { λ r. ⌜ Printed (now (out .entry)) (now (out .exit)) at r (decimal (high * 2 ^ 64 + low)) ⌝ }
 {
-    let high = v.0 * 4294967296 + v.1 / 4294967296;
-    let low = high % 1000000000 * 4294967296 + v.1 % 4294967296;
-    let front = high / 1000000000 * 4294967296 + low / 1000000000;
+    let limb = high * 4294967296 + low / 4294967296;
+    let last = limb % 1000000000 * 4294967296 + low % 4294967296;
+    let front = limb / 1000000000 * 4294967296 + last / 1000000000;
     if front == 0 {
-        return put_decimal(out, at, low % 1000000000);
+        return put_decimal(out, at, last % 1000000000);
     }
     let next = put_decimal(out, at, front);
-    put_digits(out, next, 9, low % 1000000000)
+    put_digits(out, next, 9, last % 1000000000)
 }
 
 // The same after a space.
-pub fn put_wide_field(out: &mut [u8], at: usize, v: Halves) -> usize
-    requires { ⌜ v .0 < 65536 ⌝ }
-    ensures { λ r. ⌜ Printed (now (out .entry)) (now (out .exit)) at r (field (v .0 * 2 ^ 64 + v .1)) ⌝ }
+pub fn put_wide_field(out: &mut [u8], at: usize, high: u64, low: u64) -> usize
+    requires { ⌜ high < 65536 ⌝ }
+    ensures { λ r. ⌜ Printed (now (out .entry)) (now (out .exit)) at r (field (high * 2 ^ 64 + low)) ⌝ }
 {
     let next = put_byte(out, at, b' ');
-    put_wide(out, next, v)
+    put_wide(out, next, high, low)
 }

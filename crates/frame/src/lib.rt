@@ -8,10 +8,10 @@ ghost use Rattle.frame.specs.Read.{ReadOf};
 pub const MOST_PART: usize = 16384;
 
 // What is read: a date and three parts, each after its length, and one byte more.
-pub const MOST_INPUT: usize = 49169;
+pub const MOST_READ: usize = 49169;
 
 // The n bytes that were read. Whatever follows them in an input that is longer, they tell whether it is in shape.
-pub fn read_of(buffer: &[u8; MOST_INPUT], n: usize) -> &[u8]
+pub fn read_of(buffer: &[u8; MOST_READ], n: usize) -> &[u8]
     ensures { λ r. ⌜ ReadOf (now (buffer .entry)) n (now r) ⌝ }
 {
     wire::text_at(buffer, 0, n)

@@ -2,11 +2,12 @@
 // is printed as nothing or as 0.
 ghost use mathlib.Core.Path.{_≡_};
 ghost use mathlib.Core.List.{map};
-ghost use Prim.Native.Nat.{_+_, _*_, _^_, _<_};
+ghost use Prim.Native.Nat.{_<_};
+ghost use Rattle.tally.specs.Tally.{centsOf};
 ghost use Rattle.report.specs.Line.{totalsIn};
 ghost use Rattle.decimals.specs.Printed.{Printed};
 ghost use Rattle.lines.specs.Lines.{shown, identifierText, headText, totalsText, bulkText, messageText};
-use wire::Halves;
+use tally::Cents;
 
 // How one byte of an identifier is shown: no blank and no odd byte stands in a line.
 fn shown(c: u8) -> u8
@@ -58,8 +59,8 @@ fn put_head(out: &mut [u8], at: usize, letters: &[u8], line: &[u8]) -> usize
 }
 
 // Ten bytes, so that two bytes are left for the high half.
-fn rejected_cents_in(line: &[u8]) -> Halves
-    ensures { λ r. ⌜ (r .0 * 2 ^ 64 + r .1 ≡ totalsIn (now (line .entry)) .rejectedCents) × (r .0 < 65536) ⌝ }
+fn rejected_cents_in(line: &[u8]) -> Cents
+    ensures { λ r. ⌜ (centsOf r ≡ totalsIn (now (line .entry)) .rejectedCents) × (r .0 < 65536) ⌝ }
 {
     report::rejected_cents_in(line)
 }
@@ -73,7 +74,8 @@ fn put_totals(out: &mut [u8], at: usize, line: &[u8]) -> usize
     let first = decimals::put_field(out, at, accepted);
     let second = decimals::put_field(out, first, report::accepted_cents_in(line));
     let third = decimals::put_field(out, second, rejected);
-    decimals::put_wide_field(out, third, rejected_cents_in(line))
+    let cents = rejected_cents_in(line);
+    decimals::put_wide_field(out, third, cents.0, cents.1)
 }
 
 // The line of a bulk.

@@ -11,7 +11,8 @@ use Rattle.routing.specs.Table.{rows}
 use Rattle.sheet.specs.Sheet.{bulkCount, messageCount, firstSection, whole}
 use Rattle.sheet.proofs.Laws.{whole-facts}
 use Rattle.positions.specs.Positions.{positionWidth}
-use Rattle.report.specs.Line.{messageLineWidth, reportLength}
+use Rattle.report.specs.Line.{reportLength}
+use Rattle.report.proofs.Laws.{lines-small}
 use Rattle.refusing.specs.Refusals.{holds}
 use Rattle.refusing.specs.declared.Refusal.the-variants.{Positions, Space}
 use Rattle.frame.specs.Frame.{mostPart, mostInput, inShape}
@@ -55,8 +56,8 @@ answered-all {buffer} {before} {after} {n} {written} read of room answered =
 
 -- a report takes no more than its sheet
 report-no-longer : (sheet : List ℕ) → whole sheet ≡ true → reportLength (bulkCount sheet) (messageCount sheet) ≤ length sheet
-unfolding messageLineWidth
 report-no-longer sheet e =
+    let lines = lines-small (messageCount sheet) in
     let size = sheet-length sheet (bulkCount sheet) 4 (firstSection sheet) in
     let end = whole-facts sheet e .ended in
     omega arith

@@ -13,13 +13,12 @@ use Rattle.wire.proofs.Texts.{take-bytes}
 use Rattle.wire.proofs.Stores.{part-stored}
 use Rattle.sheet.specs.Sheet.{bulkCount, messageCount, whole}
 use Rattle.report.specs.Line.{reportLength}
-use Rattle.refusing.specs.Refusals.{Call, holds, refusals, firstHolding, refusal, refusalNumber}
+use Rattle.refusing.specs.Refusals.{Call, refusal}
 use Rattle.judging.specs.Outcome.{Outcome, outcome, left}
 use Rattle.refusing.proofs.Clear.{clear-of}
-use Rattle.refusing.proofs.Numbers.{small-number}
+use Rattle.refusing.proofs.Numbers.{refusal-small}
 use Rattle.judging.proofs.Answers.{number-is, outcome-judged}
 use Rattle.judging.specs.declared.Answer.{Answer}
-use Rattle.refusing.specs.declared.Refusal.{Refusal}
 use Rattle.figures.specs.Figures.{refusalText}
 use Rattle.figures.proofs.Lengths.{refusal-short}
 use Rattle.sections.specs.Sections.{judgedText}
@@ -29,18 +28,8 @@ use Rattle.printing.proofs.Reports.{judgedReport, report-length, report
 
 -- ---- the number of a refusal
 
-numbers-small : (rs : List Refusal) (call : Call) → firstHolding rs call < 100
-unfolding firstHolding
-numbers-small [] call = lit< tt
-numbers-small (r ∷ rs) call = by-test (holds r call) (numbers-small rs call)
-  where
-    by-test : (t : Bool) → firstHolding rs call < 100 → cond t (refusalNumber r) (firstHolding rs call) < 100
-    by-test true h = small-number r
-    by-test false h = h
-
 outcome-number : (call : Call) → outcome call .number < 100
-unfolding refusal
-outcome-number call = rw (number-is call) (numbers-small refusals call)
+outcome-number call = rw (number-is call) (refusal-small call)
 
 -- ---- the text of an outcome, of bytes
 
@@ -50,7 +39,7 @@ most call positions = 2 * length (call .sheet) + 6 * length positions + 13
 module _ (call : Call) (sheet : Bytes (call .sheet)) (register : Bytes (outcome call .register)) (positions : Bytes (outcome call .positions))
     (report : Bytes (outcome call .report)) (few : length (outcome call .positions) ≤ 10 ^ 20) where
   judged-short : outcome call .number ≡ 0
-      → length (judgedText (take (outcome call .length) (outcome call .report)) (outcome call .positions) (outcome call .register)) ≤ most call (outcome call .positions)
+      → length (judgedText (outcome call .register) (outcome call .positions) (take (outcome call .length) (outcome call .report))) ≤ most call (outcome call .positions)
   unfolding judgedText
   judged-short e =
       let none : refusal call ≡ 0 = sym (number-is call) ∙ e in
@@ -72,7 +61,7 @@ module _ (call : Call) (sheet : Bytes (call .sheet)) (register : Bytes (outcome 
   outcome-short = by-test (eqb (outcome call .number) 0) refl
     where
       by-test : (t : Bool) → eqb (outcome call .number) 0 ≡ t
-          → length (cond t (judgedText (take (outcome call .length) (outcome call .report)) (outcome call .positions) (outcome call .register)) (refusalText (outcome call .number)))
+          → length (cond t (judgedText (outcome call .register) (outcome call .positions) (take (outcome call .length) (outcome call .report))) (refusalText (outcome call .number)))
           ≤ most call (outcome call .positions)
       by-test true e = judged-short (eqb-true (outcome call .number) 0 e)
       by-test false e = let short = refusal-short (outcome call .number) (outcome-number call) in omega arith

@@ -109,10 +109,10 @@ module _ (answered : Answer) (register positions report : List ℕ) (told : Outc
       ∙ ap (λ (a : Answer). outcomeText (left a register positions report)) (sym e)
       ∙ ap outcomeText is
 
-  pub judged-text : (n : ℕ) (text : List ℕ) → answered ≡ Judged n → text ≡ part report 0 n → judgedText text positions register ≡ outcomeText told
+  pub judged-text : (n : ℕ) (text : List ℕ) → answered ≡ Judged n → text ≡ part report 0 n → judgedText register positions text ≡ outcomeText told
   unfolding outcomeText
   judged-text n text e cut =
-      ap (λ (t : List ℕ). judgedText t positions register) cut
+      ap (λ (t : List ℕ). judgedText register positions t) cut
       ∙ ap (λ (a : Answer). outcomeText (left a register positions report)) (sym e)
       ∙ ap outcomeText is
 

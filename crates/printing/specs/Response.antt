@@ -37,7 +37,7 @@ callIn input = callWith (dateIn input) (sheetIn input) (tableIn input) (register
 unfoldable pub outcomeText : Outcome → List ℕ
 outcomeText o =
     cond (eqb (o .number) 0)
-    (judgedText (take (o .length) (o .report)) (o .positions) (o .register))
+    (judgedText (o .register) (o .positions) (take (o .length) (o .report)))
     (refusalText (o .number))
 
 abbrev pub anotherShape : ℕ

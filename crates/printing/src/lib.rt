@@ -3,7 +3,7 @@ mod response;
 
 ghost use Rattle.printing.specs.Response.{response};
 ghost use Rattle.printing.specs.Writing.{Answered, AnsweredAll};
-use frame::MOST_INPUT;
+use frame::MOST_READ;
 
 // No response is longer.
 pub const MOST_OUTPUT: usize = 73728;
@@ -12,7 +12,7 @@ pub const MOST_OUTPUT: usize = 73728;
 const ANOTHER_SHAPE: u32 = 99;
 
 // Answers any input. What has no room in the buffer is left out, and the answer is how many bytes were written.
-pub fn respond(input: &[u8], out: &mut [u8]) -> usize
+pub fn respond(out: &mut [u8], input: &[u8]) -> usize
     ensures { λ r. ⌜ Answered (now (out .entry)) (now (out .exit)) r (response (now (input .entry))) ⌝ }
 {
     if !frame::in_shape(input) {
@@ -29,8 +29,8 @@ pub fn respond(input: &[u8], out: &mut [u8]) -> usize
 
 // Answers an input of any length, of which the first n bytes were read: all of them, or as many as the buffer takes. The answer is
 // whole.
-pub fn respond_all(buffer: &[u8; MOST_INPUT], n: usize, out: &mut [u8; MOST_OUTPUT]) -> usize
+pub fn respond_all(out: &mut [u8; MOST_OUTPUT], buffer: &[u8; MOST_READ], n: usize) -> usize
     ensures { λ r. ⌜ AnsweredAll (now (buffer .entry)) n (now (out .entry)) (now (out .exit)) r ⌝ }
 {
-    respond(frame::read_of(buffer, n), out)
+    respond(out, frame::read_of(buffer, n))
 }

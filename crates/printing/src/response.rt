@@ -30,9 +30,9 @@ fn put_answer(
         Answer::Judged(length) => sections::put_judged(
             out,
             0,
-            wire::text_at(report, 0, length),
-            positions,
             register,
+            positions,
+            wire::text_at(report, 0, length),
         ),
     }
 }

@@ -15,7 +15,6 @@ use contract.Monad.{Fun}
 use denote.Ref.{now}
 use Rattle.promises.specs.Determined.{Determines, Determined}
 use Rattle.promises.proofs.Told.{results, both, number, truth, bytes}
-use Rattle.promises.proofs.Readings.{halves-one}
 use Rattle.wire.proofs as wire
 use Rattle.texts.proofs as texts
 use Rattle.writing.proofs as writing
@@ -47,9 +46,6 @@ module _ {M : Type 1} (𝓤 : URA M) (H : Heap 𝓤) (A : Atoms 𝓤) (mem : Mem
 
   pub wire·u64-at : Determined 𝓤 H A mem run wire.u64_at.ended wire.u64_at.clauses
   wire·u64-at κs a g r r' ws ws' h h' = (number 𝓤 _ (h .told) (h' .told), refl)
-
-  pub wire·halves-at : Determined 𝓤 H A mem run wire.halves_at.ended wire.halves_at.clauses
-  wire·halves-at κs a g r r' ws ws' h h' = (both 𝓤 (results wire.halves_at.ended κs) (halves-one (h .held) (h' .held)) (h .told) (h' .told), refl)
 
   -- ---- texts
 

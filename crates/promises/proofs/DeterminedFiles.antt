@@ -16,7 +16,7 @@ use contract.Monad.{Fun}
 use denote.Ref.{now}
 use Rattle.promises.specs.Determined.{Determines, Determined}
 use Rattle.promises.proofs.Told.{results, both, number, truth, bytes}
-use Rattle.promises.proofs.Readings.{halves-one, found-one, routed-one, shape-one, count-one, header-one, message-one, walk-one, bulk-one, places-one, cents-one, side-one, tally-one}
+use Rattle.promises.proofs.Readings.{found-one, routed-one, shape-one, count-one, header-one, message-one, walk-one, bulk-one, places-one, cents-one, side-one, tally-one}
 use Rattle.routing.proofs as routing
 use Rattle.sheet.proofs as sheet
 use Rattle.register.proofs as register
@@ -218,4 +218,4 @@ module _ {M : Type 1} (𝓤 : URA M) (H : Heap 𝓤) (A : Atoms 𝓤) (mem : Mem
   report·rejected-number-in κs a g r r' ws ws' h h' = (number 𝓤 _ (h .told) (h' .told), refl)
 
   pub report·rejected-cents-in : Determined 𝓤 H A mem run report.rejected_cents_in.ended report.rejected_cents_in.clauses
-  report·rejected-cents-in κs a g r r' ws ws' h h' = (both 𝓤 (results report.rejected_cents_in.ended κs) (halves-one (h .held) (h' .held)) (h .told) (h' .told), refl)
+  report·rejected-cents-in κs a g r r' ws ws' h h' = (both 𝓤 (results report.rejected_cents_in.ended κs) (cents-one (h .held) (h' .held)) (h .told) (h' .told), refl)

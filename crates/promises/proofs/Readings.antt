@@ -10,8 +10,6 @@ use native.Mathlib.Omega.{arith}
 use lib.Dec.{eqb}
 use borrow.Author.Tests.{eqb-false}
 use Rattle.promises.specs.Determined.{Held}
-use Rattle.wire.specs.declared.Halves.{Halves}
-use Rattle.wire.proofs.Halves.{the-row as halves-row}
 use Rattle.routing.specs.Lookup.{Routed, optionOf, valuesOf}
 use Rattle.routing.specs.Promise.{RowTold, AnswerTold}
 use Rattle.routing.specs.declared.Found.{Found}
@@ -162,12 +160,6 @@ low-one h h' l l' small small' e = omega arith
 
 high-one : (h h' l l' : ℕ) → l < 2 ^ 64 → l' < 2 ^ 64 → h * 2 ^ 64 + l ≡ h' * 2 ^ 64 + l' → h ≡ h'
 high-one h h' l l' small small' e = omega arith
-
-pub halves-one : {n : ℕ} {x y : Halves} → Held halves-row x → Held halves-row y → x .0 * 2 ^ 64 + x .1 ≡ n → y .0 * 2 ^ 64 + y .1 ≡ n → x ≡ y
-halves-one {x = x} {y = y} p q t t' = λ i. record {
-  0 = high-one (x .0) (y .0) (x .1) (y .1) (p .1 .1 .1 .1 .0 .1) (q .1 .1 .1 .1 .0 .1) (t ∙ sym t') i;
-  1 = low-one (x .0) (y .0) (x .1) (y .1) (p .1 .1 .1 .1 .0 .1) (q .1 .1 .1 .1 .0 .1) (t ∙ sym t') i;
-}
 
 small-one : {x y : Cents} → x .1 < 2 ^ 64 → y .1 < 2 ^ 64 → centsOf x ≡ centsOf y → x ≡ y
 small-one {x} {y} p q e = λ i. record {

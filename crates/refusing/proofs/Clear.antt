@@ -20,7 +20,7 @@ use Rattle.refusing.specs.Refusals.{Call, refusalNumber, mostBulks, most
 use Rattle.refusing.specs.Checking.{fromIn, from}
 use Rattle.refusing.specs.declared.Refusal.{Refusal}
 use Rattle.refusing.specs.declared.Refusal.the-variants.{Date, Table, Positions, Register, Sheet, Size, Kind, Order, Room, Limit, Space}
-use Rattle.refusing.proofs.Numbers.{some-number, listed}
+use Rattle.refusing.proofs.Numbers.{some-number, in-order}
 
 -- ---- where the first that holds is none, none holds
 
@@ -43,7 +43,7 @@ none-later (x ∷ xs) r call e = by-test (eqb (refusalNumber x) (refusalNumber r
 none-holds : (call : Call) → refusal call ≡ 0 → (r : Refusal) → holds r call ≡ false
 unfolding refusal
 none-holds call e r =
-    let there = listed r in
+    let there = in-order r in
     first-none r (there .0) call (sym (ap (λ (rs : List Refusal). firstHolding rs call) (there .1)) ∙ none-later refusals r call e) .0
 
 holds-none : (rs : List Refusal) (call : Call) → ((r : Refusal) → holds r call ≡ false) → firstHolding rs call ≡ 0

@@ -1,10 +1,10 @@
 -- Each refusal has a number of its own, from 1 to 99, and stands in the order: all that is said of them one by one. Assumes nothing.
 use mathlib.Core.Path.{_≡_, refl, sym, ap, _∙_}
-use mathlib.Core.Bool.{false, cond}
+use mathlib.Core.Bool.{Bool, true, false, cond}
 use mathlib.Core.List.{List, [], _∷_}
 use Prim.Native.Nat.{ℕ, _<_}
 use lib.Dec.{eqb, lit<}
-use Rattle.refusing.specs.Refusals.{refusalNumber, refusals}
+use Rattle.refusing.specs.Refusals.{Call, refusalNumber, holds, refusals, firstHolding, refusal}
 use Rattle.refusing.specs.Checking.{from}
 use Rattle.refusing.specs.declared.Refusal.{Refusal}
 use Rattle.refusing.specs.declared.Refusal.the-variants.{Date, Table, Positions, Register, Sheet, Size, Kind, Order, Room, Limit, Space}
@@ -35,18 +35,18 @@ small-number Room = lit< tt
 small-number Limit = lit< tt
 small-number Space = lit< tt
 
-pub listed : (r : Refusal) → (later : List Refusal) × (from r ≡ r ∷ later)
-listed Date = (_, refl)
-listed Table = (_, refl)
-listed Positions = (_, refl)
-listed Register = (_, refl)
-listed Sheet = (_, refl)
-listed Size = (_, refl)
-listed Kind = (_, refl)
-listed Order = (_, refl)
-listed Room = (_, refl)
-listed Limit = (_, refl)
-listed Space = (_, refl)
+pub in-order : (r : Refusal) → (later : List Refusal) × (from r ≡ r ∷ later)
+in-order Date = (_, refl)
+in-order Table = (_, refl)
+in-order Positions = (_, refl)
+in-order Register = (_, refl)
+in-order Sheet = (_, refl)
+in-order Size = (_, refl)
+in-order Kind = (_, refl)
+in-order Order = (_, refl)
+in-order Room = (_, refl)
+in-order Limit = (_, refl)
+in-order Space = (_, refl)
 
 -- the refusal of a number, among those listed
 numbered : List Refusal → ℕ → Refusal
@@ -70,3 +70,33 @@ number-back Space = refl
 -- so no two have the same
 pub number-tells : (r s : Refusal) → refusalNumber r ≡ refusalNumber s → r ≡ s
 number-tells r s e = sym (number-back r) ∙ ap (numbered refusals) e ∙ number-back s
+
+-- ---- the answer's number
+
+first-named : (rs : List Refusal) (call : Call) → (firstHolding rs call ≡ 0 → ⊥) → (r : Refusal) × (refusalNumber r ≡ firstHolding rs call)
+unfolding firstHolding
+first-named [] call e = absurd (e refl)
+first-named (r ∷ rs) call e = by-test (first-named rs call) (holds r call) e
+  where
+    by-test : ((firstHolding rs call ≡ 0 → ⊥) → (x : Refusal) × (refusalNumber x ≡ firstHolding rs call))
+        → (t : Bool) → (cond t (refusalNumber r) (firstHolding rs call) ≡ 0 → ⊥) → (x : Refusal) × (refusalNumber x ≡ cond t (refusalNumber r) (firstHolding rs call))
+    by-test later true e = (r, refl)
+    by-test later false e = later e
+
+first-small : (rs : List Refusal) (call : Call) → firstHolding rs call < 100
+unfolding firstHolding
+first-small [] call = lit< tt
+first-small (r ∷ rs) call = by-test (holds r call) (first-small rs call)
+  where
+    by-test : (t : Bool) → firstHolding rs call < 100 → cond t (refusalNumber r) (firstHolding rs call) < 100
+    by-test true h = small-number r
+    by-test false h = h
+
+-- other than 0 it is the number of a refusal
+pub refusal-named : (call : Call) → (refusal call ≡ 0 → ⊥) → (r : Refusal) × (refusalNumber r ≡ refusal call)
+unfolding refusal
+refusal-named call e = first-named refusals call e
+
+pub refusal-small : (call : Call) → refusal call < 100
+unfolding refusal
+refusal-small call = first-small refusals call

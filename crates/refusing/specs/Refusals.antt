@@ -7,7 +7,7 @@ use lib.Dec.{ltb, eqb}
 use Rattle.calendar.specs.Date.{isDate}
 use Rattle.routing.specs.Table.{rows, wellFormed}
 use Rattle.register.specs.Register.{free, wellFormed as registerFormed}
-use Rattle.positions.specs.Positions.{positionWidth, roomForAll}
+use Rattle.positions.specs.Positions.{fits, roomForAll}
 use Rattle.sheet.specs.Sheet.{bulkCount, messageCount, whole, headersOf, kindsKnown, mixed}
 use Rattle.rules.specs.declared.Terms.{Terms}
 use Rattle.rules.specs.OfMessage.{mostCents}
@@ -47,7 +47,7 @@ mostMessages = 15000
 unfoldable pub holds : Refusal → Call → Bool
 holds Date call = not (isDate (call .terms .date))
 holds Table call = not (wellFormed (call .table))
-holds Positions call = not (eqb (length (call .positions)) (positionWidth * rows (call .table)))
+holds Positions call = not (fits (call .positions) (rows (call .table)))
 holds Register call = not (registerFormed (call .register))
 holds Sheet call = not (whole (call .sheet))
 holds Size call = ltb mostBulks (bulkCount (call .sheet)) || ltb mostMessages (messageCount (call .sheet))

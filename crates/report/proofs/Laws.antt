@@ -23,6 +23,11 @@ pub line-within : (j n : ℕ) → j < n → messageLineWidth * j + messageLineWi
 unfolding messageLineWidth
 line-within j n h = omega arith
 
+-- the lines of so many messages take no more than as many bulk lines would
+pub lines-small : (n : ℕ) → messageLineWidth * n ≤ bulkLineWidth * n
+unfolding messageLineWidth
+lines-small n = omega arith
+
 -- ---- lengths
 
 -- a line with a field more

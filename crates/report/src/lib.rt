@@ -4,10 +4,11 @@ ghost use Prim.Native.Nat.{_+_, _*_, _^_, _≤_, _<_};
 ghost use lib.ListN.{length};
 ghost use lib.Seq.{sets};
 ghost use Rattle.wire.specs.Field.{bytesOf};
-ghost use Rattle.tally.specs.Tally.{totalsOf};
+ghost use Rattle.tally.specs.Tally.{centsOf, totalsOf};
 ghost use Rattle.tally.specs.Room.{mostCounted};
 ghost use Rattle.report.specs.Line.{identifierWidth, lineHeadWidth, bulkLineWidth, messageLineWidth, lineHead, bulkLine, messageLine, identifierIn, outcomeIn, faultsIn, totalsIn, countWidth, firstLine, sectionsPlace, linesAt, afterLines, bulkLineAt, messageLineAt, reportLength};
 ghost use Rattle.report.specs.Told.{PlacesTold};
+use tally::Cents;
 use tally::Tally;
 
 const IDENTIFIER_WIDTH: usize = 35;
@@ -176,7 +177,8 @@ pub fn put_bulk_line(
     writing::put_halves(
         out,
         at + REJECTED_CENTS_PLACE,
-        wire::Halves(tally.rejected.cents.0, tally.rejected.cents.1),
+        tally.rejected.cents.0,
+        tally.rejected.cents.1,
     );
 }
 
@@ -238,8 +240,12 @@ pub fn rejected_number_in(line: &[u8]) -> u32
     wire::u32_at(line, REJECTED_NUMBER_PLACE)
 }
 
-pub fn rejected_cents_in(line: &[u8]) -> wire::Halves
-    ensures { λ r. ⌜ r .0 * 2 ^ 64 + r .1 ≡ totalsIn (now (line .entry)) .rejectedCents ⌝ }
+// The last eight bytes of the field are the low half.
+pub fn rejected_cents_in(line: &[u8]) -> Cents
+    ensures { λ r. ⌜ centsOf r ≡ totalsIn (now (line .entry)) .rejectedCents ⌝ }
 {
-    wire::halves_at(line, REJECTED_CENTS_PLACE)
+    let field = wire::text_at(line, REJECTED_CENTS_PLACE, REJECTED_CENTS_WIDTH);
+    let low = wire::least(8, field.len());
+    let high = field.len() - low;
+    Cents(wire::number(&field[..high]), wire::number(field))
 }

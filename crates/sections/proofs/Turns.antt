@@ -123,7 +123,7 @@ positions-none positions = refl
 
 -- ---- all of it
 
-pub judged-pieces : (report positions register : List ℕ) (n : ℕ) → n ≡ used register
-    → reportText report ++ positionsText positions ++ usedText n ≡ judgedText report positions register
+pub judged-pieces : (register positions report : List ℕ) (n : ℕ) → n ≡ used register
+    → reportText report ++ positionsText positions ++ usedText n ≡ judgedText register positions report
 unfolding judgedText
-judged-pieces report positions register n is = rw is
+judged-pieces register positions report n is = rw is

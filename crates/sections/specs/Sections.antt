@@ -39,4 +39,4 @@ positionsText positions = positionsFrom positions (rows positions) 0
 
 -- what is printed of a file that was judged
 unfoldable pub judgedText : List ℕ → List ℕ → List ℕ → List ℕ
-judgedText report positions register = reportText report ++ positionsText positions ++ usedText (used register)
+judgedText register positions report = reportText report ++ positionsText positions ++ usedText (used register)

@@ -54,11 +54,11 @@ fn put_positions(out: &mut [u8], at: usize, positions: &[u8]) -> usize
 pub fn put_judged(
     out: &mut [u8],
     at: usize,
-    report: &[u8],
-    positions: &[u8],
     register: &[u8],
+    positions: &[u8],
+    report: &[u8],
 ) -> usize
-    ensures { λ r. ⌜ Printed (now (out .entry)) (now (out .exit)) at r (judgedText (now (report .entry)) (now (positions .entry)) (now (register .entry))) ⌝ }
+    ensures { λ r. ⌜ Printed (now (out .entry)) (now (out .exit)) at r (judgedText (now (register .entry)) (now (positions .entry)) (now (report .entry))) ⌝ }
 {
     let reported = put_report(out, at, report);
     let placed = put_positions(out, reported, positions);

@@ -1,11 +1,8 @@
 // Numbers and text read from bytes. Every function takes any slice and any place: a field that runs past the end is read as what is
 // left of it. So nobody above has to ask first.
 ghost use mathlib.Core.Path.{_≡_};
-ghost use Prim.Native.Nat.{_*_, _+_, _%_, _^_, min};
+ghost use Prim.Native.Nat.{_%_, _^_, min};
 ghost use Rattle.wire.specs.Field.{part, numberOf, numberAt};
-
-// A number that may pass 64 bits, as its high and its low half.
-pub struct Halves(pub u64, pub u64);
 
 pub fn least(a: usize, b: usize) -> usize
     ensures { λ r. ⌜ r ≡ min a b ⌝ }
@@ -57,14 +54,4 @@ pub fn u64_at(s: &[u8], at: usize) -> u64
     ensures { λ r. ⌜ r ≡ numberAt (now (s .entry)) at 8 ⌝ }
 {
     number(text_at(s, at, 8))
-}
-
-// Ten bytes: two for the high half, eight for the low one.
-pub fn halves_at(s: &[u8], at: usize) -> Halves
-    ensures { λ r. ⌜ r .0 * 2 ^ 64 + r .1 ≡ numberAt (now (s .entry)) at 10 ⌝ }
-{
-    let field = text_at(s, at, 10);
-    let low = least(8, field.len());
-    let high = field.len() - low;
-    Halves(number(&field[..high]), number(field))
 }

@@ -4,7 +4,6 @@ ghost use mathlib.Core.Path.{_≡_};
 ghost use Prim.Native.Nat.{_*_, _+_, _^_};
 ghost use lib.Seq.{sets};
 ghost use Rattle.wire.specs.Field.{bytesOf};
-use wire::Halves;
 use wire::least;
 
 // Writes v in the n bytes from place at on.
@@ -23,13 +22,13 @@ pub fn put_number(d: &mut [u8], at: usize, n: usize, v: u64)
     }
 }
 
-// Writes the two halves in the ten bytes from place at on.
-pub fn put_halves(d: &mut [u8], at: usize, v: Halves)
-    ensures { λ _. ⌜ now (d .exit) ≡ sets (now (d .entry)) at (bytesOf 10 (v .0 * 2 ^ 64 + v .1)) ⌝ }
+// Writes a number that may pass 64 bits, given as its high and its low half, in the ten bytes from place at on.
+pub fn put_halves(d: &mut [u8], at: usize, high: u64, low: u64)
+    ensures { λ _. ⌜ now (d .exit) ≡ sets (now (d .entry)) at (bytesOf 10 (high * 2 ^ 64 + low)) ⌝ }
 {
-    put_number(d, at, 2, v.0);
+    put_number(d, at, 2, high);
     if at < d.len() {
-        put_number(d, at + 2, 8, v.1);
+        put_number(d, at + 2, 8, low);
     }
 }
 

@@ -1,11 +1,8 @@
 -- `refusing::from_positions` meets its contract: where its condition holds that is the answer, else what the conditions after it come to.
 -- Assumes nothing.
-use mathlib.Core.Path.{refl, _∙_}
+use mathlib.Core.Path.{refl, ap, _∙_}
 use mathlib.Core.Bool.{true, false}
-use Prim.Native.Nat.{_*_}
-use lib.Dec.{eqb}
-use lib.ListN.{length}
-use Rattle.positions.specs.Positions.{positionWidth}
+use Rattle.positions.specs.Positions.{fits}
 use Rattle.refusing.specs.Refusals.{holds}
 use Rattle.refusing.specs.Checking.{callOf}
 use Rattle.refusing.specs.declared.Refusal.the-variants.{Positions, Register}
@@ -19,14 +16,14 @@ unfolding holds
 returns c =
     let a = c .before .before .before .before .before .before .before .before .args in
     let call = callOf (a .terms) (a .sheet .now) (a .table .now) (a .register .now) (a .positions .now) (a .report .now) in
-    stops call Positions _ refl (not-good _ true _ (c .before .fit .ensures ∙ (λ i. eqb (length (a .positions .now)) (positionWidth * c .before .before .rows .ensures i))) (c .if1 .taken))
+    stops call Positions _ refl (not-good _ true _ (c .before .fit .ensures ∙ ap (fits (a .positions .now)) (c .before .before .rows .ensures)) (c .if1 .taken))
 
 returns-2 : tie.Need-returns-2
 unfolding holds
 returns-2 c =
     let a = c .before .before .before .before .before .before .before .before .before .args in
     let call = callOf (a .terms) (a .sheet .now) (a .table .now) (a .register .now) (a .positions .now) (a .report .now) in
-    goes-on call Positions Register refl (not-good _ false _ (c .before .before .fit .ensures ∙ (λ i. eqb (length (a .positions .now)) (positionWidth * c .before .before .before .rows .ensures i))) (c .before .if1 .left)) (c .from-register .result) (c .from-register .ensures)
+    goes-on call Positions Register refl (not-good _ false _ (c .before .before .fit .ensures ∙ ap (fits (a .positions .now)) (c .before .before .before .rows .ensures)) (c .before .if1 .left)) (c .from-register .result) (c .from-register .ensures)
 
 pub from-positions-spec : {M : Type 1} → statement M
 from-positions-spec = tie.close (tie.spec (λ c κs. search needs) (λ c κs. search needs) returns (λ c κs. search needs) returns-2)

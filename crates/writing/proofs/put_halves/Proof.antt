@@ -12,17 +12,17 @@ use Rattle.writing.proofs.put_halves.Tie as tie
 returns : tie.Need-returns
 returns c =
     let start = c .before .before .before .before .before .before .before .before .before .before in
-    let fits : start .args .v .1 < 2 ^ 64 = omega (arith, start .good) in
+    let fits : start .args .low < 2 ^ 64 = omega (arith, start .good) in
     rw (c .before .before .put-number2 .ensures, c .before .before .before .before .before .before .before .put-number .ensures)
-    (halves-stored (start .args .d .now) (start .args .at) (start .args .v .0) (start .args .v .1) fits)
+    (halves-stored (start .args .d .now) (start .args .at) (start .args .high) (start .args .low) fits)
 
 returns-2 : tie.Need-returns-2
 returns-2 c =
     let start = c .before .before .before .before .before .before in
-    let all = bytesOf 10 (start .args .v .0 * 2 ^ 64 + start .args .v .1) in
+    let all = bytesOf 10 (start .args .high * 2 ^ 64 + start .args .low) in
     let out : length (start .args .d .now) ≤ start .args .at = omega (arith, c .before .before .before .put-number .kept .0) in
     c .before .before .before .put-number .ensures
-    ∙ sets-out (start .args .d .now) (start .args .at) (bytesOf 2 (start .args .v .0)) out
+    ∙ sets-out (start .args .d .now) (start .args .at) (bytesOf 2 (start .args .high)) out
     ∙ sym (sets-out (start .args .d .now) (start .args .at) all out)
 
 pub put-halves-spec : {M : Type 1} → statement M

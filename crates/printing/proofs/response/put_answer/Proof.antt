@@ -32,7 +32,7 @@ returns-2 c =
     let left = judge .last .1 .1 .1 in
     let same : length (left .1 .0) ≡ length (args .positions .now) = judge .kept .1 .1 .1 .1 .0 in
     record {
-      printed = reading (judged-text (judge .result) (left .0) (left .1 .0) (left .1 .1 .0) (outcome call) (judge .ensures) (c .before .before .before .before .before .before .before .before .before .answered .given .0 .0) (c .before .before .before .before .before .text-at .result .now) (c .before .before .before .before .before .before .before .before .before .answered .given .1) (c .before .before .before .before .before .text-at .ensures)) (c .before .before .put-judged .ensures);
+      printed = reading (judged-text (judge .result) (left .0) (left .1 .0) (left .1 .1 .0) (outcome call) (judge .ensures) (c .before .before .before .before .before .before .before .before .before .answered .given .0 .0) (c .before .before .before .text-at .result .now) (c .before .before .before .before .before .before .before .before .before .answered .given .1) (c .before .before .before .text-at .ensures)) (c .before .before .put-judged .ensures);
       short = answer-short call (judge .result) (left .0) (left .1 .0) (left .1 .1 .0) (args .positions .now) (judge .ensures) (λ i. c .before .before .before .before .before .before .before .before .before .before .before .before .before .before .before .before .before .before .before .before .before .before .before .before .before .shared-slice-known .given i .fits) (λ i. c .before .before .before .before .before .before .before .before .before .before .before .before .before .before .before .slice-known5 .given i .fits) (λ i. c .before .before .before .before .before .before .before .before .before .before .before .before .before .slice-known6 .given i .fits) (λ i. c .before .before .before .before .before .before .before .before .before .before .before .slice-known7 .given i .fits) same (omega (arith, c .before .before .before .before .before .before .before .before .before .before .before .before .before .before .before .before .before .before .before .before .before .before .before .before .before .before .before .good));
     }
 
