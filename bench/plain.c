@@ -1,5 +1,5 @@
 /*
- * A judge as a C programmer would write it from the rules: one pass, plain searches, memcmp, no proofs.
+ * A judge as a C programmer would write it from the rules: no proofs, plain searches, memcmp.
  * The benchmark measures the proved judge against it, and it stands in for the archive when the comparer is tested.
  */
 #include "plain.h"

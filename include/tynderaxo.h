@@ -3,7 +3,7 @@
  *
  * What a caller owes, for both functions:
  *   - each pointer is valid for the length beside it: for reading where it is const, else for reading and writing;
- *   - no two buffers overlap;
+ *   - no buffer that is written (reg, positions, report) overlaps another; sheet, table and bic may lie over one another;
  *   - a buffer of length 0 may be a null pointer.
  * Nothing else is asked: the buffers may hold any bytes and have any lengths, and what does not fit is answered.
  *
@@ -21,9 +21,9 @@ extern "C" {
 
 /*
  * number: 0 if the file was judged, else why it was turned away: the first in this list that holds.
- * length: the bytes of report written; 0 with any refusal, and then reg, positions and report keep every byte.
+ * length: the bytes of report written; 0 with any refusal, and then no byte of reg, positions or report has changed.
  *
- *    1  the date is no Gregorian day from 20000101 to 22991231
+ *    1  the date is not a day of the years 2000 to 2299
  *    2  the table's length does not fit its count, it has over 8,192 rows, or a row's kind is not 0, 5, 6 or 20
  *    3  the positions are not 8 bytes for each row
  *    4  the register is not 4 + 44c bytes with c at most 60,000, or claims more than c entries

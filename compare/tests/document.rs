@@ -46,7 +46,7 @@ fn entries_not_in_use_keep_their_bytes() {
 }
 
 #[test]
-fn a_sheet_of_no_bulks_is_judged() {
+fn a_sheet_without_bulks_is_no_refusal() {
     let mut call = call(&[]);
     assert_eq!(call.sheet, [0; 4]);
     let answer = judge(&mut call);

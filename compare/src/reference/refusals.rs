@@ -1,4 +1,4 @@
-//! When a whole file is turned away, in the order of the numbers.
+//! Which calls are refused: the conditions, in the order of the numbers.
 
 use super::calendar::is_date;
 use super::routing;

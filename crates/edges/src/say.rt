@@ -2,15 +2,6 @@
 ghost use Prim.Native.Nat.{_<_};
 use crate::words;
 
-const BULK_LINE: usize = 64;
-
-const MESSAGE_LINE: usize = 38;
-
-// Where outcome and faults stand in both kinds of line, after the identifier.
-const OUTCOME: usize = 35;
-
-const FAULTS: usize = 36;
-
 // A longer report is told by its length.
 const MOST_SHOWN: usize = 1000;
 
@@ -73,8 +64,8 @@ fn bits(faults: u16) {
 
 // The outcome's word, and the faults.
 fn line(outcomes: &[u8], line: &[u8]) {
-    text(words::word(outcomes, wire::u8_at(line, OUTCOME) as usize));
-    bits(wire::u16_at(line, FAULTS));
+    text(words::word(outcomes, report::outcome_in(line) as usize));
+    bits(report::faults_in(line));
 }
 
 // The message lines of a bulk, which follow their count.
@@ -85,7 +76,7 @@ fn messages(section: &[u8]) {
         text(b"; message ");
         line(
             b"accepted rejected fell",
-            wire::text_at(section, 4 + MESSAGE_LINE * (i as usize), MESSAGE_LINE),
+            report::message_line_at(section, i as usize),
         );
         i += 1;
     }
@@ -95,9 +86,9 @@ fn bulk(report: &[u8]) {
     text(b"bulk ");
     line(
         b"accepted partial rejected",
-        wire::text_at(report, 4, BULK_LINE),
+        report::bulk_line_at(report, 0),
     );
-    messages(wire::text_at(report, 4 + BULK_LINE, report.len()));
+    messages(wire::text_at(report, report::sections_at(1), report.len()));
 }
 
 fn size(length: usize) {

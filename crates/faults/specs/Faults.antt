@@ -4,7 +4,7 @@ use mathlib.Core.Bool.{Bool}
 use mathlib.Core.List.{List, [], _∷_}
 use mathlib.Core.Option.{Option}
 use Rattle.masks.specs.Mask.{mask}
-use Rattle.routing.specs.Lookup.{rowOf, headOffice, route}
+use Rattle.routing.specs.Lookup.{headOfficeRow, route}
 use Rattle.sheet.specs.Sheet.{kindOf, bulkIdentifierOf, senderOf, statedNumberOf, statedSumOf, valueDateOf, marksOf, identifierOf, receiverOf, amountOf, originalOf, reasonOf, nameOf}
 use Rattle.register.specs.Register.{messageTag, bulkTag}
 use Rattle.wording.specs.Wording.{badlyFormed}
@@ -16,7 +16,7 @@ use Rattle.rules.specs.OfMessage.{receiverBadlyFormed, unreachable, amountWrong
 
 -- of a bulk's sender: the first that counts of the sender followed by XXX
 abbrev pub senderRow : Terms → List ℕ → List ℕ → Option ℕ
-senderRow terms table header = rowOf (terms .date) table (headOffice (senderOf header))
+senderRow terms table header = headOfficeRow (terms .date) table (senderOf header)
 
 -- of a message's receiver: its own, else its head office's
 abbrev pub receiverRow : Terms → List ℕ → List ℕ → Option ℕ

@@ -11,7 +11,7 @@ use borrow.Author.Tests.{eq-eqb, ne-eqb}
 use Rattle.wire.specs.Field.{bytesOf}
 use Rattle.wire.proofs.Numbers.{bytes-length}
 use Rattle.wire.proofs.Stores.{sets-then}
-use Rattle.routing.specs.Lookup.{optionOf, rowOf, headOffice}
+use Rattle.routing.specs.Lookup.{optionOf, headOfficeRow}
 use Rattle.routing.specs.Promise.{RowTold}
 use Rattle.routing.specs.declared.Found.{Found}
 use Rattle.sheet.specs.Sheet.{messageWidth, senderOf, bulkIdentifierOf}
@@ -61,9 +61,9 @@ module _ (register register' new : List ℕ) (accepted : ℕ) where
 
 module _ (terms : Terms) (sheet table positions : List ℕ) (header : Header) (ready : HeaderReady sheet table positions header) where
   module _ (sender : List ℕ) (read : sender ≡ senderOf (headerIn sheet header)) (row : Found)
-      (told : RowTold table (optionOf row) (rowOf (terms .date) table (headOffice sender))) where
+      (told : RowTold table (optionOf row) (headOfficeRow (terms .date) table sender)) where
     row-told : optionOf row ≡ senderRow terms table (headerIn sheet header)
-    row-told = told .is ∙ ap (λ (s : List ℕ). rowOf (terms .date) table (headOffice s)) read
+    row-told = told .is ∙ ap (λ (s : List ℕ). headOfficeRow (terms .date) table s) read
 
     pub bulk-asked : BulkAsked terms sheet table header row
     bulk-asked = record { within = ready .within; read = ready .read; found = row-told }

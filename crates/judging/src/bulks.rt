@@ -66,7 +66,7 @@ fn judge_bulk(
     ensures { λ _. ⌜ BulkTold terms (now (table .entry)) (bulkIn (now (sheet .entry)) header section) (stateOf (now (register .entry)) (now (positions .entry))) (now (report .entry)) places (now (register .exit)) (now (positions .exit)) (now (report .exit)) ⌝ }
 {
     let sender = header.sender(sheet);
-    let row = routing::head_office(terms.date, table, sender);
+    let row = routing::head_office_row(terms.date, table, sender);
     let sum = messages::sum_of(sheet, header.kind, section);
     let n = section.number;
     let faults = faults::bulk_faults(terms, sheet, table, register, header, row, n as u64, sum);

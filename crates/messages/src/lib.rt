@@ -146,7 +146,7 @@ pub fn judge_messages(
     let mut j = 0;
     while j < n {
         let message = cursor.message(sheet, kind);
-        let to = report::message_line(j);
+        let to = report::line_place(j);
         let accepted = judge_message(
             terms,
             sheet,

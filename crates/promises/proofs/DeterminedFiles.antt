@@ -36,8 +36,8 @@ module _ {M : Type 1} (𝓤 : URA M) (H : Heap 𝓤) (A : Atoms 𝓤) (mem : Mem
   pub routing·row-of : Determined 𝓤 H A mem run routing.row_of.ended routing.row_of.clauses
   routing·row-of κs a g r r' ws ws' h h' = (both 𝓤 (results routing.row_of.ended κs) found-one (h .told) (h' .told), refl)
 
-  pub routing·head-office : Determined 𝓤 H A mem run routing.head_office.ended routing.head_office.clauses
-  routing·head-office κs a g r r' ws ws' h h' = (both 𝓤 (results routing.head_office.ended κs) found-one (h .told) (h' .told), refl)
+  pub routing·head-office-row : Determined 𝓤 H A mem run routing.head_office_row.ended routing.head_office_row.clauses
+  routing·head-office-row κs a g r r' ws ws' h h' = (both 𝓤 (results routing.head_office_row.ended κs) found-one (h .told) (h' .told), refl)
 
   pub routing·route : Determined 𝓤 H A mem run routing.route.ended routing.route.clauses
   routing·route κs a g r r' ws ws' h h' = (both 𝓤 (results routing.route.ended κs) found-one (h .told) (h' .told), refl)
@@ -181,8 +181,8 @@ module _ {M : Type 1} (𝓤 : URA M) (H : Heap 𝓤) (A : Atoms 𝓤) (mem : Mem
   pub report·lines-at : Determined 𝓤 H A mem run report.lines_at.ended report.lines_at.clauses
   report·lines-at κs a g r r' ws ws' h h' = (number 𝓤 _ (h .told) (h' .told), refl)
 
-  pub report·message-line : Determined 𝓤 H A mem run report.message_line.ended report.message_line.clauses
-  report·message-line κs a g r r' ws ws' h h' = (number 𝓤 _ (h .told) (h' .told), refl)
+  pub report·line-place : Determined 𝓤 H A mem run report.line_place.ended report.line_place.clauses
+  report·line-place κs a g r r' ws ws' h h' = (number 𝓤 _ (h .told) (h' .told), refl)
 
   pub report·put-count : Determined 𝓤 H A mem run report.put_count.ended report.put_count.clauses
   report·put-count κs a g r r' ws ws' h h' = (refl, λ i. (bytes 𝓤 _ (h .told) (h' .told) i, ws .1))

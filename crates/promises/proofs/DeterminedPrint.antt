@@ -119,7 +119,7 @@ module _ {M : Type 1} (𝓤 : URA M) (H : Heap 𝓤) (A : Atoms 𝓤) (mem : Mem
   -- ---- printing
 
   pub printing·respond : Determined 𝓤 H A mem run printing.respond.ended printing.respond.clauses
-  printing·respond κs a g r r' ws ws' h h' = (both 𝓤 ℕ-set written-one (h .told) (h' .told), λ i. (tt, (both 𝓤 (List·isSet ℕ-set) printed-one (h .told) (h' .told) i, tt)))
+  printing·respond κs a g r r' ws ws' h h' = (both 𝓤 ℕ-set written-one (h .told) (h' .told), λ i. (both 𝓤 (List·isSet ℕ-set) printed-one (h .told) (h' .told) i, ws .1))
 
   pub printing·respond-all : Determined 𝓤 H A mem run printing.respond_all.ended printing.respond_all.clauses
-  printing·respond-all κs a g r r' ws ws' h h' = (both 𝓤 ℕ-set all-written-one (h .told) (h' .told), λ i. (tt, (tt, (both 𝓤 (List·isSet ℕ-set) all-printed-one (h .told) (h' .told) i, tt))))
+  printing·respond-all κs a g r r' ws ws' h h' = (both 𝓤 ℕ-set all-written-one (h .told) (h' .told), λ i. (both 𝓤 (List·isSet ℕ-set) all-printed-one (h .told) (h' .told) i, ws .1))

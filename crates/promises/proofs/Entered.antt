@@ -24,7 +24,7 @@ use Rattle.refusing.specs.Refusals.{Call, refusal}
 use Rattle.judging.specs.Outcome.{outcome, judgement, judgedOf}
 use Rattle.refusing.proofs.Clear.{clear-of}
 use Rattle.judging.proofs.Answers.{outcome-judged, outcome-refused}
-use Rattle.promises.specs.Reading.{Payment, paymentOf, keyOf, ownKey, keysBy, recordedFrom, recorded, withKeys}
+use Rattle.promises.specs.Reading.{Payment, paymentOf, paymentKey, ownKey, keysBy, recordedFrom, recorded, withKeys}
 use Rattle.promises.specs.Demands.{centsPaid}
 use Rattle.promises.proofs.Added.{AllKeys, all-append, with-append, Added, none-added, all-added}
 use Rattle.promises.proofs.Bulks.{AllWide, AllShaped}
@@ -75,28 +75,28 @@ module _ (terms : Terms) (table : List ℕ) where
   -- ---- the register after the messages of a bulk, after a bulk, after all bulks
 
   pub message-register : (header : List ℕ) (fallen : Bool) (m : List ℕ) (before : State)
-      → cond (isAccepted fallen (faultsOf terms table header m before)) (add (before .register) (keyOf (paymentOf header m))) (before .register)
+      → cond (isAccepted fallen (faultsOf terms table header m before)) (add (before .register) (paymentKey (paymentOf header m))) (before .register)
       ≡ afterMessage terms table header fallen m before .register
   message-register header fallen m before = by-verdict (isAccepted fallen (faultsOf terms table header m before)) refl
     where
       by-verdict : (v : Bool) → isAccepted fallen (faultsOf terms table header m before) ≡ v
-          → cond v (add (before .register) (keyOf (paymentOf header m))) (before .register) ≡ afterMessage terms table header fallen m before .register
+          → cond v (add (before .register) (paymentKey (paymentOf header m))) (before .register) ≡ afterMessage terms table header fallen m before .register
       by-verdict true told = ap (λ (st : State). st .register) (sym (after-accepted terms table header fallen m before told))
       by-verdict false told = ap (λ (st : State). st .register) (sym (after-rejected terms table header fallen m before told))
 
   messages-register : (header : List ℕ) (fallen : Bool) (ms : List (List ℕ)) (before : State)
-      → judgeMessages terms table header fallen ms before .after .register ≡ withKeys (before .register) (map keyOf (paid terms table header fallen ms before))
+      → judgeMessages terms table header fallen ms before .after .register ≡ withKeys (before .register) (map paymentKey (paid terms table header fallen ms before))
   unfolding judgeMessages paid withKeys
   messages-register header fallen [] before = refl
   messages-register header fallen (m ∷ ms) before =
       let next = afterMessage terms table header fallen m before in
       messages-register header fallen ms next
-      ∙ ap (λ (r : List ℕ). withKeys r (map keyOf (paid terms table header fallen ms next))) (sym (message-register header fallen m before))
+      ∙ ap (λ (r : List ℕ). withKeys r (map paymentKey (paid terms table header fallen ms next))) (sym (message-register header fallen m before))
       ∙ by-verdict (isAccepted fallen (faultsOf terms table header m before)) (paid terms table header fallen ms next)
     where
       by-verdict : (v : Bool) (later : List Payment)
-          → withKeys (cond v (add (before .register) (keyOf (paymentOf header m))) (before .register)) (map keyOf later)
-          ≡ withKeys (before .register) (map keyOf (cond v (paymentOf header m ∷ later) later))
+          → withKeys (cond v (add (before .register) (paymentKey (paymentOf header m))) (before .register)) (map paymentKey later)
+          ≡ withKeys (before .register) (map paymentKey (cond v (paymentOf header m ∷ later) later))
       by-verdict true later = refl
       by-verdict false later = refl
 
@@ -114,7 +114,7 @@ module _ (terms : Terms) (table : List ℕ) where
       sym (by-taken (paidIn b before) (judged .totals .acceptedNumber) (come (b .header) (falls terms table b before) (b .messages) before .number) (judged .after)
       (messages-register (b .header) (falls terms table b before) (b .messages) before))
     where
-      by-taken : (taken : List Payment) (n : ℕ) → n ≡ length taken → (after : State) → after .register ≡ withKeys (before .register) (map keyOf taken)
+      by-taken : (taken : List Payment) (n : ℕ) → n ≡ length taken → (after : State) → after .register ≡ withKeys (before .register) (map paymentKey taken)
           → cond (eqb n 0) after (record { register = add (after .register) (ownOf (b .header)); positions = after .positions }) .register
           ≡ withKeys (before .register) (keysBy (b .header) taken)
       by-taken [] n e after h = rw e h
@@ -122,7 +122,7 @@ module _ (terms : Terms) (table : List ℕ) where
           let some : n ≡ 0 → ⊥ = λ none. omega arith in
           rw (ne-eqb n 0 some)
           (ap (λ (r : List ℕ). add r (ownOf (b .header))) h
-          ∙ sym (with-append (before .register) (map keyOf (p ∷ ps)) (ownOf (b .header) ∷ [])))
+          ∙ sym (with-append (before .register) (map paymentKey (p ∷ ps)) (ownOf (b .header) ∷ [])))
 
   unfoldable enteredBy : List Bulk → State → List (List ℕ)
   enteredBy [] before = []
@@ -151,14 +151,14 @@ module _ (terms : Terms) (table : List ℕ) where
   -- ---- each is as wide as a key, and there are no more than bulks and messages
 
   paid-wide : (header : List ℕ) → length header ≡ headerWidth → (fallen : Bool) (kind : ℕ) (ms : List (List ℕ)) (before : State) → AllWide kind ms
-      → AllKeys (map keyOf (paid terms table header fallen ms before))
+      → AllKeys (map paymentKey (paid terms table header fallen ms before))
   unfolding paid AllWide AllKeys
   paid-wide header wide fallen kind [] before all = tt
   paid-wide header wide fallen kind (m ∷ ms) before all =
       by-verdict (isAccepted fallen (faultsOf terms table header m before)) (paid terms table header fallen ms (afterMessage terms table header fallen m before))
       (paid-wide header wide fallen kind ms (afterMessage terms table header fallen m before) (all .1))
     where
-      by-verdict : (v : Bool) (later : List Payment) → AllKeys (map keyOf later) → AllKeys (map keyOf (cond v (paymentOf header m ∷ later) later))
+      by-verdict : (v : Bool) (later : List Payment) → AllKeys (map paymentKey later) → AllKeys (map paymentKey (cond v (paymentOf header m ∷ later) later))
       by-verdict true later rest = (key-length (senderOf header) (identifierOf m) messageTag (key-parts header kind m wide (all .0)), rest)
       by-verdict false later rest = rest
 
@@ -187,7 +187,7 @@ module _ (terms : Terms) (table : List ℕ) where
       record {
         wide =
             all-append (keysBy (b .header) taken) (enteredBy bs (afterBulk terms table b before))
-            (all-append (map keyOf taken) (ownKey (b .header) taken)
+            (all-append (map paymentKey taken) (ownKey (b .header) taken)
             (paid-wide (b .header) (all .0 .header) (falls terms table b before) (kindOf (b .header)) (b .messages) before (all .0 .messages))
             (own-wide (b .header) (all .0 .header) taken))
             (rest .wide);

@@ -12,8 +12,7 @@ use borrow.Author.Tests.{eqb-true, leb-true, not-true, not-false}
 use Rattle.wire.specs.Field.{Bytes}
 use Rattle.masks.proofs.Laws.{mask-zero}
 use Rattle.routing.specs.Table.{rows}
-use Rattle.routing.specs.Lookup.{headOffice}
-use Rattle.routing.proofs.Laws.{row-below, route-below, reachable-row, participates-row}
+use Rattle.routing.proofs.Laws.{office-below, route-below, reachable-row, participates-row}
 use Rattle.register.specs.Register.{key, messageTag, bulkTag, used, room, free, stands, add}
 use Rattle.register.specs.Room.{Formed}
 use Rattle.register.proofs.Laws.{add-formed, free-add}
@@ -138,7 +137,7 @@ module _ (terms : Terms) (table : List ℕ) where
       → Fit (afterAccepted terms table header message before) e p
   accepted-fit header message before e p sends a f =
       let new = key (senderOf header) (identifierOf message) messageTag in
-      let s = row-below (terms .date) table (headOffice (senderOf header)) (sends .row) (sends .found) in
+      let s = office-below (terms .date) table (senderOf header) (sends .row) (sends .found) in
       let t = route-below (terms .date) table (receiverOf message) (a .row) (a .found) in
       rw (pays-found header message before sends a)
       (entry-fit (record { register = before .register; positions = pays (before .positions) (some (sends .row)) (some (a .row)) (amountOf message) }) new e p

@@ -12,8 +12,7 @@ use lib.IntN.{ℤ, pos, negℤ, _+ℤ_, _-ℤ_, +ℤ-assoc, +ℤ-comm}
 use lib.ListN.{length, length-append}
 use Rattle.wire.specs.Field.{Bytes, numberAt, numberFrom, numberOf}
 use Rattle.wire.proofs.Texts.{part-back}
-use Rattle.routing.specs.Lookup.{headOffice}
-use Rattle.routing.proofs.Laws.{row-below, route-below}
+use Rattle.routing.proofs.Laws.{office-below, route-below}
 use Rattle.register.specs.Register.{key, messageTag, bulkTag, tagPlace, entry, used, room, entriesTo, entriesOf, keysOf, inUse, add}
 use Rattle.register.specs.Room.{Parts}
 use Rattle.register.proofs.Laws.{key-length, keys-add, stands-listed}
@@ -101,7 +100,7 @@ module _ (terms : Terms) (table : List ℕ) where
     accepted-moved : (j : ℕ) → signed (positionAt (afterAccepted terms table header message st .positions) j)
         ≡ signed (positionAt (st .positions) j) +ℤ pos (centsTo terms table j (paymentOf header message ∷ [])) -ℤ pos (centsFrom terms table j (paymentOf header message ∷ []))
     accepted-moved j =
-        let s = row-below (terms .date) table (headOffice (senderOf header)) (sends .row) (sends .found) in
+        let s = office-below (terms .date) table (senderOf header) (sends .row) (sends .found) in
         let t = route-below (terms .date) table (receiverOf message) (a .row) (a .found) in
         let small = a .small in
         ap (λ (ps : List ℕ). signed (positionAt ps j)) (pays-found terms table header message st sends a)

@@ -14,7 +14,7 @@ use Rattle.register.proofs.Laws.{stands-listed}
 use Rattle.positions.specs.Positions.{positionAt, signed}
 use Rattle.rules.specs.declared.Terms.{Terms}
 use Rattle.messages.specs.Messages.{State}
-use Rattle.promises.specs.Reading.{Payment, keyOf, toRow, fromRow, centsTo, centsFrom}
+use Rattle.promises.specs.Reading.{Payment, paymentKey, toRow, fromRow, centsTo, centsFrom}
 use Rattle.promises.specs.Runs.{SamePayment, NoneLike, NoneTwice, withMessageTag, messageKeys, AllStand}
 
 -- ---- cents add up
@@ -90,42 +90,42 @@ not-listed xs e h = by-test (listed (withMessageTag xs) e) refl
 -- each of their keys is none of the keys ks, nor of those of the payments before it
 unfoldable pub Fresh : List (List ℕ) → List Payment → Type 0
 Fresh ks [] = Unit {0}
-Fresh ks (p ∷ ps) = (listed ks (keyOf p) ≡ false) × Fresh (ks ++ (keyOf p ∷ [])) ps
+Fresh ks (p ∷ ps) = (listed ks (paymentKey p) ≡ false) × Fresh (ks ++ (paymentKey p ∷ [])) ps
 
-fresh-append : (ks : List (List ℕ)) (ps qs : List Payment) → Fresh ks ps → Fresh (ks ++ map keyOf ps) qs → Fresh ks (ps ++ qs)
+fresh-append : (ks : List (List ℕ)) (ps qs : List Payment) → Fresh ks ps → Fresh (ks ++ map paymentKey ps) qs → Fresh ks (ps ++ qs)
 unfolding Fresh
 fresh-append ks [] qs f g = rw (append-nil ks) at g
 fresh-append ks (p ∷ ps) qs f g =
-    (f .0, fresh-append (ks ++ (keyOf p ∷ [])) ps qs (f .1) (rw (append-assoc ks (keyOf p ∷ []) (map keyOf ps)) g))
+    (f .0, fresh-append (ks ++ (paymentKey p ∷ [])) ps qs (f .1) (rw (append-assoc ks (paymentKey p ∷ []) (map paymentKey ps)) g))
 
 -- so none of them is like another
-none-like : (ks : List (List ℕ)) (p : Payment) (ps : List Payment) → listed ks (keyOf p) ≡ true → Fresh ks ps → NoneLike p ps
+none-like : (ks : List (List ℕ)) (p : Payment) (ps : List Payment) → listed ks (paymentKey p) ≡ true → Fresh ks ps → NoneLike p ps
 unfolding Fresh NoneLike
 none-like ks p [] there f = tt
 none-like ks p (q ∷ qs) there f = (
   (λ (alike : SamePayment p q).
-      let equal : keyOf p ≡ keyOf q = ap₂ (λ (x y : List ℕ). key x y messageTag) (alike .0) (alike .1) in
+      let equal : paymentKey p ≡ paymentKey q = ap₂ (λ (x y : List ℕ). key x y messageTag) (alike .0) (alike .1) in
       false≢true (sym (f .0) ∙ (rw (← equal) there))),
-  none-like (ks ++ (keyOf q ∷ [])) p qs (rw (listed-append ks (keyOf q ∷ []) (keyOf p), there)) (f .1),
+  none-like (ks ++ (paymentKey q ∷ [])) p qs (rw (listed-append ks (paymentKey q ∷ []) (paymentKey p), there)) (f .1),
 )
 
 pub none-twice : (ks : List (List ℕ)) (ps : List Payment) → Fresh ks ps → NoneTwice ps
 unfolding Fresh NoneTwice listed
 none-twice ks [] f = tt
 none-twice ks (p ∷ ps) f = (
-  none-like (ks ++ (keyOf p ∷ [])) p ps (rw (listed-append ks (keyOf p ∷ []) (keyOf p), same-itself (keyOf p)) (or-true (listed ks (keyOf p)))) (f .1),
-  none-twice (ks ++ (keyOf p ∷ [])) ps (f .1),
+  none-like (ks ++ (paymentKey p ∷ [])) p ps (rw (listed-append ks (paymentKey p ∷ []) (paymentKey p), same-itself (paymentKey p)) (or-true (listed ks (paymentKey p)))) (f .1),
+  none-twice (ks ++ (paymentKey p ∷ [])) ps (f .1),
 )
 
 -- each stands in a register that lists them all
-pub all-stand-from : (register : List ℕ) (ks : List (List ℕ)) (ps : List Payment) → messageKeys register ≡ ks ++ map keyOf ps → AllStand register ps
+pub all-stand-from : (register : List ℕ) (ks : List (List ℕ)) (ps : List Payment) → messageKeys register ≡ ks ++ map paymentKey ps → AllStand register ps
 unfolding AllStand listed
 all-stand-from register ks [] e = tt
 all-stand-from register ks (p ∷ ps) e = (
-  stands-listed register (keyOf p)
-      ∙ tag-listed (keysOf register) (keyOf p)
-      (rw (e, listed-append ks (keyOf p ∷ map keyOf ps) (keyOf p), same-itself (keyOf p)) (or-true (listed ks (keyOf p)))),
-  all-stand-from register (ks ++ (keyOf p ∷ [])) ps (e ∙ sym (append-assoc ks (keyOf p ∷ []) (map keyOf ps))),
+  stands-listed register (paymentKey p)
+      ∙ tag-listed (keysOf register) (paymentKey p)
+      (rw (e, listed-append ks (paymentKey p ∷ map paymentKey ps) (paymentKey p), same-itself (paymentKey p)) (or-true (listed ks (paymentKey p)))),
+  all-stand-from register (ks ++ (paymentKey p ∷ [])) ps (e ∙ sym (append-assoc ks (paymentKey p ∷ []) (map paymentKey ps))),
 )
 
 -- ---- from one state to another
@@ -133,7 +133,7 @@ all-stand-from register ks (p ∷ ps) e = (
 module _ (terms : Terms) (table : List ℕ) where
   pub record Tracked (before after : State) (ps : List Payment) : Type 0 where
     pub fresh : Fresh (messageKeys (before .register)) ps
-    pub recorded : messageKeys (after .register) ≡ messageKeys (before .register) ++ map keyOf ps
+    pub recorded : messageKeys (after .register) ≡ messageKeys (before .register) ++ map paymentKey ps
     pub positions : (j : ℕ)
         → signed (positionAt (after .positions) j)
         ≡ signed (positionAt (before .positions) j) +ℤ pos (centsTo terms table j ps) -ℤ pos (centsFrom terms table j ps)
@@ -153,9 +153,9 @@ module _ (terms : Terms) (table : List ℕ) where
         fresh = fresh-append (messageKeys (a .register)) ps qs (f .fresh) (rw (f .recorded) at (g .fresh));
         recorded =
             g .recorded
-            ∙ ap (λ (ks : List (List ℕ)). ks ++ map keyOf qs) (f .recorded)
-            ∙ append-assoc (messageKeys (a .register)) (map keyOf ps) (map keyOf qs)
-            ∙ ap (λ (ks : List (List ℕ)). messageKeys (a .register) ++ ks) (sym (map-append keyOf ps qs));
+            ∙ ap (λ (ks : List (List ℕ)). ks ++ map paymentKey qs) (f .recorded)
+            ∙ append-assoc (messageKeys (a .register)) (map paymentKey ps) (map paymentKey qs)
+            ∙ ap (λ (ks : List (List ℕ)). messageKeys (a .register) ++ ks) (sym (map-append paymentKey ps qs));
         positions = λ j.
             g .positions j
             ∙ ap (λ (k : ℤ). k +ℤ pos (centsTo terms table j qs) -ℤ pos (centsFrom terms table j qs)) (f .positions j)

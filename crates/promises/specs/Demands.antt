@@ -17,7 +17,7 @@ use Rattle.refusing.specs.Refusals.{Call, refusal}
 use Rattle.messages.specs.Messages.{sumOf, messageOutcome}
 use Rattle.judging.specs.Judgement.{bulkOutcome}
 use Rattle.judging.specs.Outcome.{Outcome}
-use Rattle.promises.specs.Reading.{Judge, InBytes, Payment, paymentOf, lineCount, bulkLineFrom, messageLineFrom, saysFallen, saysAccepted, acceptedOf, accepted, keyOf, recordedOf, recorded, withKeys, centsTo, centsFrom}
+use Rattle.promises.specs.Reading.{Judge, InBytes, Payment, paymentOf, lineCount, bulkLineFrom, messageLineFrom, saysFallen, saysAccepted, acceptedOf, accepted, paymentKey, recordedOf, recorded, withKeys, centsTo, centsFrom}
 
 -- ---- demand 1
 
@@ -61,7 +61,7 @@ module _ (terms : Terms) (table report : List ℕ) where
   MessagesTell header fallen (m ∷ ms) register at =
       let line = messageLineFrom report at in
       MessageTells header fallen m register line
-      × MessagesTell header fallen ms (cond (saysAccepted line) (add register (keyOf (paymentOf header m))) register) (at + messageLineWidth)
+      × MessagesTell header fallen ms (cond (saysAccepted line) (add register (paymentKey (paymentOf header m))) register) (at + messageLineWidth)
 
   -- a bulk judged on a register, its line, and its section, which begins at place at
   pub record BulkTells (bulk : Bulk) (register line : List ℕ) (at : ℕ) : Type 0 where

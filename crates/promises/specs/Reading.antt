@@ -8,7 +8,7 @@ use mathlib.Core.Option.{Option, none, some}
 use lib.ListN.{length}
 use lib.Dec.{eqb}
 use Rattle.wire.specs.Field.{Bytes, part, numberAt}
-use Rattle.routing.specs.Lookup.{rowOf, headOffice, route}
+use Rattle.routing.specs.Lookup.{headOfficeRow, route}
 use Rattle.sheet.specs.Sheet.{Bulk, bulkCount, bulksOf, senderOf, bulkIdentifierOf, identifierOf, receiverOf, amountOf}
 use Rattle.register.specs.Register.{key, messageTag, bulkTag, add}
 use Rattle.rules.specs.declared.Terms.{Terms}
@@ -90,8 +90,8 @@ accepted sheet left =
 
 -- ---- what the register gains by it, told by the keys
 
-abbrev pub keyOf : Payment → List ℕ
-keyOf p = key (p .sender) (p .identifier) messageTag
+abbrev pub paymentKey : Payment → List ℕ
+paymentKey p = key (p .sender) (p .identifier) messageTag
 
 -- a bulk's own key, where one of its messages was accepted
 abbrev pub ownKey : List ℕ → List Payment → List (List ℕ)
@@ -100,7 +100,7 @@ ownKey header (p ∷ ps) = key (senderOf header) (bulkIdentifierOf header) bulkT
 
 -- the keys of a bulk of which these messages were accepted: theirs, then its own
 abbrev pub keysBy : List ℕ → List Payment → List (List ℕ)
-keysBy header taken = map keyOf taken ++ ownKey header taken
+keysBy header taken = map paymentKey taken ++ ownKey header taken
 
 -- of one bulk, whose section begins at place at
 abbrev pub recordedOf : List ℕ → Bulk → ℕ → List (List ℕ)
@@ -135,7 +135,7 @@ module _ (terms : Terms) (table : List ℕ) (j : ℕ) where
 
   -- and from row j if the row of its bulk's sender is row j: the first that counts of the sender followed by XXX
   abbrev pub fromRow : Payment → Bool
-  fromRow p = isRow (rowOf (terms .date) table (headOffice (p .sender))) j
+  fromRow p = isRow (headOfficeRow (terms .date) table (p .sender)) j
 
   unfoldable pub centsTo : List Payment → ℕ
   centsTo [] = 0

@@ -11,7 +11,7 @@ use Rattle.positions.specs.Positions.{positionAt, signed}
 use Rattle.rules.specs.declared.Terms.{Terms}
 use Rattle.refusing.specs.Refusals.{Call}
 use Rattle.messages.specs.Messages.{State}
-use Rattle.promises.specs.Reading.{Judge, Payment, accepted, recorded, keyOf, centsTo, centsFrom}
+use Rattle.promises.specs.Reading.{Judge, Payment, accepted, recorded, paymentKey, centsTo, centsFrom}
 
 -- ---- a run
 
@@ -80,7 +80,7 @@ messageKeys register = withMessageTag (keysOf register)
 -- each of them stands there
 unfoldable pub AllStand : List ℕ → List Payment → Type 0
 AllStand register [] = Unit {0}
-AllStand register (p ∷ ps) = (stands register (keyOf p) ≡ true) × AllStand register ps
+AllStand register (p ∷ ps) = (stands register (paymentKey p) ≡ true) × AllStand register ps
 
 -- ---- what holds
 
@@ -91,7 +91,7 @@ pub record RunHolds (terms : Terms) (table : List ℕ) (before : State) (ran : R
   pub recorded : entriesOf (ran .after .register) ≡ entriesOf (before .register) ++ map entry (ran .recorded)
   -- so every accepted message stands there, and no other message was recorded
   pub stands : AllStand (ran .after .register) (ran .accepted)
-  pub messages : messageKeys (ran .after .register) ≡ messageKeys (before .register) ++ map keyOf (ran .accepted)
+  pub messages : messageKeys (ran .after .register) ≡ messageKeys (before .register) ++ map paymentKey (ran .accepted)
   -- each row's position is its start plus the cents accepted to it less the cents accepted from it
   pub positions : (j : ℕ)
       → signed (positionAt (ran .after .positions) j)

@@ -17,7 +17,7 @@ use Rattle.report.specs.Line.{faultsPlace, faultsWidth, acceptedNumberPlace, nu
 use Rattle.messages.specs.Messages.{messageFell}
 use Rattle.refusing.specs.Refusals.{Call, refusal}
 use Rattle.judging.specs.Outcome.{Outcome, turnedAway, outcome}
-use Rattle.promises.specs.Reading.{Judge, bulkLineFrom, messageLineFrom, acceptedOf, accepted, keyOf, ownKey, withKeys}
+use Rattle.promises.specs.Reading.{Judge, bulkLineFrom, messageLineFrom, acceptedOf, accepted, paymentKey, ownKey, withKeys}
 use Rattle.promises.specs.Cut.{CutsAnywhere}
 use Rattle.promises.specs.Demands.{RefusesAsWritten, EveryLineTells, LeavesTheRest}
 use Rattle.promises.specs.Runs.{RunsAsPromised}
@@ -86,14 +86,14 @@ hidesBesideARepeat call =
 
 -- no key of a bulk is added
 abbrev pub recordsNoBulk : Judge
-recordsNoBulk call = whereJudged (λ left. withRegister left (withKeys (call .register) (map keyOf (accepted (call .sheet) left)))) call
+recordsNoBulk call = whereJudged (λ left. withRegister left (withKeys (call .register) (map paymentKey (accepted (call .sheet) left)))) call
 
 -- each bulk's own key is added before those of its messages
 unfoldable pub bulksFirst : List ℕ → List Bulk → ℕ → List (List ℕ)
 bulksFirst report [] at = []
 bulksFirst report (b ∷ bs) at =
     let taken = acceptedOf report (b .header) (b .messages) (linesAt at) in
-    ownKey (b .header) taken ++ map keyOf taken ++ bulksFirst report bs (afterLines at (length (b .messages)))
+    ownKey (b .header) taken ++ map paymentKey taken ++ bulksFirst report bs (afterLines at (length (b .messages)))
 
 abbrev pub recordsTheBulkFirst : Judge
 recordsTheBulkFirst call =

@@ -109,7 +109,7 @@ pub fn lines_at(section: usize) -> usize
 }
 
 // Where line j stands among the lines of a section.
-pub fn message_line(j: usize) -> usize
+pub fn line_place(j: usize) -> usize
     requires { ⌜ j < 2 ^ 32 ⌝ }
     ensures { λ r. ⌜ r ≡ messageLineWidth * j ⌝ }
 {

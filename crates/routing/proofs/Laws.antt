@@ -22,7 +22,7 @@ use Rattle.routing.specs.Promise.{Formed, FormTold, Below}
 use Rattle.routing.specs.declared.Refusal.the-variants.{Date, Table, Bic}
 use Rattle.routing.specs.declared.Found.{Found}
 use Rattle.routing.specs.declared.Found.the-variants.{Row as FoundRow}
-use Rattle.routing.specs.Lookup.{counts, bears, rowOf, xxx, headOffice, isHeadOffice, orElse, route, reachable, participates, refused, routed, lookupNumber, lookup, optionOf}
+use Rattle.routing.specs.Lookup.{counts, bears, rowOf, xxx, headOffice, headOfficeRow, isHeadOffice, orElse, route, reachable, participates, refused, routed, lookupNumber, lookup, optionOf}
 
 -- ---- places
 
@@ -130,7 +130,7 @@ module _ (date : ℕ) (table bic : List ℕ) where
   unfolding route
   route-nowhere own head = rw (← own, head)
 
-  pub route-head : none ≡ rowOf date table bic → isHeadOffice bic ≡ false → rowOf date table (headOffice bic) ≡ route date table bic
+  pub route-head : none ≡ rowOf date table bic → isHeadOffice bic ≡ false → headOfficeRow date table bic ≡ route date table bic
   unfolding route
   route-head own head = rw (← own, head)
 
@@ -156,19 +156,22 @@ module _ (date : ℕ) (table bic : List ℕ) where
 
 -- ---- a row that was found is a row of the table
 
-pub row-below : (date : ℕ) (table bic : List ℕ) (i : ℕ) → rowOf date table bic ≡ some i → i < rows table
+row-below : (date : ℕ) (table bic : List ℕ) (i : ℕ) → rowOf date table bic ≡ some i → i < rows table
 unfolding rowOf
 row-below date table bic i e = let found = first-found (bears date table bic) (rows table) 0 i e in omega (arith, found .1)
+
+pub office-below : (date : ℕ) (table bic : List ℕ) (i : ℕ) → headOfficeRow date table bic ≡ some i → i < rows table
+office-below date table bic i e = row-below date table (headOffice bic) i e
 
 pub route-below : (date : ℕ) (table bic : List ℕ) (i : ℕ) → route date table bic ≡ some i → i < rows table
 unfolding route
 route-below date table bic i e = own (rowOf date table bic) refl e
   where
-    office : (t : Bool) → cond t none (rowOf date table (headOffice bic)) ≡ some i → i < rows table
+    office : (t : Bool) → cond t none (headOfficeRow date table bic) ≡ some i → i < rows table
     office true e = absurd (let z : _≡_ {A = ℕ} 0 1 = cc in omega arith)
-    office false e = row-below date table (headOffice bic) i e
+    office false e = office-below date table bic i e
 
-    own : (r : Option ℕ) → rowOf date table bic ≡ r → orElse r (cond (isHeadOffice bic) none (rowOf date table (headOffice bic))) ≡ some i → i < rows table
+    own : (r : Option ℕ) → rowOf date table bic ≡ r → orElse r (cond (isHeadOffice bic) none (headOfficeRow date table bic)) ≡ some i → i < rows table
     own none found e = office (isHeadOffice bic) e
     own (some j) found e = let same : j ≡ i = cc in rw (← same) (row-below date table bic j found)
 

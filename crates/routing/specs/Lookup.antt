@@ -37,6 +37,9 @@ xxx = text "XXX"
 abbrev pub headOffice : List ℕ → List ℕ
 headOffice bic = take institutionWidth bic ++ xxx
 
+abbrev pub headOfficeRow : ℕ → List ℕ → List ℕ → Option ℕ
+headOfficeRow date table bic = rowOf date table (headOffice bic)
+
 abbrev pub isHeadOffice : List ℕ → Bool
 isHeadOffice bic = same (part bic institutionWidth branchWidth) xxx
 
@@ -46,7 +49,7 @@ orElse none other = other
 
 -- a row of the BIC itself, whatever its kind; where there is none, that of its head office, unless the BIC is one itself
 unfoldable pub route : ℕ → List ℕ → List ℕ → Option ℕ
-route date table bic = orElse (rowOf date table bic) (cond (isHeadOffice bic) none (rowOf date table (headOffice bic)))
+route date table bic = orElse (rowOf date table bic) (cond (isHeadOffice bic) none (headOfficeRow date table bic))
 
 -- a row that was found is reachable unless its kind says that it is not
 abbrev pub reachable : List ℕ → Option ℕ → Bool

@@ -1,4 +1,4 @@
--- What the contracts say besides a function's value: facts that a crate above needs, so that it cites no proof of this one.
+-- What the contracts say besides a function's value: facts that the code of a crate above needs, so that it cites no proof of this one.
 use Prim.Native.Nat.{ℕ, _+_, _*_, _≤_, _<_}
 use mathlib.Core.Path.{_≡_}
 use mathlib.Core.Bool.{Bool, true}

@@ -6,7 +6,7 @@ ghost use lib.ListN.{length};
 ghost use Rattle.wire.specs.Field.{numberAt};
 ghost use Rattle.routing.specs.Table.{dateWidth, rowAt, rowWidth, rows, knownKind, kindAt, kindsKnown};
 ghost use Rattle.routing.specs.Promise.{FormTold, RowTold, AnswerTold};
-ghost use Rattle.routing.specs.Lookup.{lookupNumber, optionOf, counts, bears, rowOf, headOffice, route, reachable, participates, lookup};
+ghost use Rattle.routing.specs.Lookup.{lookupNumber, optionOf, counts, bears, rowOf, headOfficeRow, route, reachable, participates, lookup};
 
 const INSTITUTION_WIDTH: usize = 8;
 
@@ -151,8 +151,8 @@ pub fn row_of(date: u32, table: &[u8], bic: &[u8]) -> Found
 }
 
 // The same for the head office: the first eight characters followed by XXX.
-pub fn head_office(date: u32, table: &[u8], bic: &[u8]) -> Found
-    ensures { λ r. ⌜ RowTold (now (table .entry)) (optionOf r) (rowOf date (now (table .entry)) (headOffice (now (bic .entry)))) ⌝ }
+pub fn head_office_row(date: u32, table: &[u8], bic: &[u8]) -> Found
+    ensures { λ r. ⌜ RowTold (now (table .entry)) (optionOf r) (headOfficeRow date (now (table .entry)) (now (bic .entry))) ⌝ }
 {
     let mut head = [b'X'; BIC_WIDTH];
     let front = wire::text_at(bic, 0, INSTITUTION_WIDTH);
@@ -172,7 +172,7 @@ pub fn route(date: u32, table: &[u8], bic: &[u8]) -> Found
             if texts::same(wire::text_at(bic, INSTITUTION_WIDTH, BRANCH_WIDTH), b"XXX") {
                 Found::Nothing
             } else {
-                head_office(date, table, bic)
+                head_office_row(date, table, bic)
             }
         }
     }

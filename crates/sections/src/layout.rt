@@ -11,14 +11,14 @@ pub(crate) fn count_in(s: &[u8]) -> u32
     wire::u32_at(s, 0)
 }
 
-pub(crate) fn bulk_line(report: &[u8], i: u32) -> &[u8]
+pub(crate) fn bulk_line_at(report: &[u8], i: u32) -> &[u8]
     ensures { λ r. ⌜ now r ≡ bulkLineAt (now (report .entry)) i ⌝ }
 {
     report::bulk_line_at(report, i as usize)
 }
 
 // The place where the sections begin.
-pub(crate) fn first_section(bulks: u32) -> usize
+pub(crate) fn sections_place(bulks: u32) -> usize
     ensures { λ r. ⌜ r ≡ sectionsPlace bulks ⌝ }
 {
     report::sections_at(bulks as usize)
@@ -30,7 +30,7 @@ pub(crate) fn sections_from(report: &[u8], place: usize) -> &[u8]
     wire::text_at(report, place, report.len())
 }
 
-pub(crate) fn message_line(section: &[u8], i: u32) -> &[u8]
+pub(crate) fn message_line_at(section: &[u8], i: u32) -> &[u8]
     ensures { λ r. ⌜ now r ≡ messageLineAt (now (section .entry)) i ⌝ }
 {
     report::message_line_at(section, i as usize)

@@ -13,7 +13,7 @@ fn put_section(out: &mut [u8], at: usize, section: &[u8]) -> usize
     let mut next = wire::least(at, out.len());
     let mut i = 0;
     while i < count {
-        next = lines::put_message(out, next, layout::message_line(section, i));
+        next = lines::put_message(out, next, layout::message_line_at(section, i));
         i += 1;
     }
     next
@@ -25,10 +25,10 @@ fn put_report(out: &mut [u8], at: usize, report: &[u8]) -> usize
 {
     let bulks = layout::count_in(report);
     let mut next = wire::least(at, out.len());
-    let mut place = layout::first_section(bulks);
+    let mut place = layout::sections_place(bulks);
     let mut i = 0;
     while i < bulks {
-        let told = lines::put_bulk(out, next, layout::bulk_line(report, i));
+        let told = lines::put_bulk(out, next, layout::bulk_line_at(report, i));
         next = put_section(out, told, layout::sections_from(report, place));
         place = layout::next_section(report, place);
         i += 1;

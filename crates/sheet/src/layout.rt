@@ -42,13 +42,13 @@ pub(crate) const REASON_PLACE: usize = 62;
 
 pub(crate) const NAME_PLACE: usize = 66;
 
-pub(crate) const MESSAGE_WIDTH: usize = 81;
+pub(crate) const FIELDS_WIDTH: usize = 81;
 
 // How wide a message is in a bulk of this kind: today every kind has the same fields.
 pub(crate) fn message_width(kind: u8) -> usize
     ensures { λ r. ⌜ r ≡ messageWidth kind ⌝ }
 {
-    MESSAGE_WIDTH
+    FIELDS_WIDTH
 }
 
 // Where the sections begin, after so many headers.

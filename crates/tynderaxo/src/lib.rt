@@ -1,5 +1,5 @@
 // The doors for C: the proved judge and the proved lookup under C's calling convention, and nothing else. A caller owes what
-// include/tynderaxo.h says: pointers that are valid for their lengths, and buffers that do not overlap.
+// include/tynderaxo.h says: pointers that are valid for their lengths, and no written buffer over another.
 ghost use mathlib.Core.Path.{_≡_};
 ghost use Rattle.judging.specs.Outcome.{outcome};
 ghost use Rattle.refusing.specs.Checking.{callOf};

@@ -30,8 +30,8 @@ message-requires c κs =
     let l = c .before .loop in
     message-within (a .terms) (a .table .now) (headerIn (a .sheet .now) (a .ruling .header)) (a .ruling .fallen) (a .ruling .header .kind) (a .sheet .now) (a .section .at) (a .section .number) (stateOf (a .register .now) (a .positions .now)) (a .out .now) (l .register) (l .positions) (l .out) (totalsOf (l .tally)) (l .cursor .at) (l .j) (l .inv) (start .pre .1) (c .loop-test .taken)
 
-message-line-requires : tie.Need-message-line-requires Inv-loop μ-loop
-message-line-requires c κs = few-words _ _ (c .before .loop-test .taken) (c .before .before .before .before .before .before .before .before .before .before .pre .1 .few)
+line-place-requires : tie.Need-line-place-requires Inv-loop μ-loop
+line-place-requires c κs = few-words _ _ (c .before .loop-test .taken) (c .before .before .before .before .before .before .before .before .before .before .pre .1 .few)
 
 judge-message-requires : tie.Need-judge-message-requires Inv-loop μ-loop
 judge-message-requires c κs =
@@ -42,7 +42,7 @@ judge-message-requires c κs =
       ruling-kept (a .terms) (a .sheet .now) (a .table .now) (a .positions .now) (a .ruling) (start .pre .0) (l .positions) (l .inv .positionsWide),
       message-ready (a .ruling .header .kind) (a .sheet .now) (l .cursor .at) _ (l .out) _ (c .before .before .before .before .message .ensures)
           (message-within (a .terms) (a .table .now) (headerIn (a .sheet .now) (a .ruling .header)) (a .ruling .fallen) (a .ruling .header .kind) (a .sheet .now) (a .section .at) (a .section .number) (stateOf (a .register .now) (a .positions .now)) (a .out .now) (l .register) (l .positions) (l .out) (totalsOf (l .tally)) (l .cursor .at) (l .j) (l .inv) (start .pre .1) low)
-          (rw (c .before .before .before .message-line .ensures) (line-space (a .terms) (a .table .now) (headerIn (a .sheet .now) (a .ruling .header)) (a .ruling .fallen) (a .ruling .header .kind) (a .sheet .now) (a .section .at) (a .section .number) (stateOf (a .register .now) (a .positions .now)) (a .out .now) (l .register) (l .positions) (l .out) (totalsOf (l .tally)) (l .cursor .at) (l .j) (l .inv) (start .pre .2) low)),
+          (rw (c .before .before .before .line-place .ensures) (line-space (a .terms) (a .table .now) (headerIn (a .sheet .now) (a .ruling .header)) (a .ruling .fallen) (a .ruling .header .kind) (a .sheet .now) (a .section .at) (a .section .number) (stateOf (a .register .now) (a .positions .now)) (a .out .now) (l .register) (l .positions) (l .out) (totalsOf (l .tally)) (l .cursor .at) (l .j) (l .inv) (start .pre .2) low)),
     )
 
 count-message-requires : tie.Need-count-message-requires Inv-loop μ-loop
@@ -64,7 +64,7 @@ loop-again c =
     let judged = c .before .before .before .before .before .before .before .before .judge-message in
     let word = amount-word (a .ruling .header .kind) (a .sheet .now) (l .cursor .at) _ (λ i. c .before .before .before .before .before .before .before .before .before .before .before .before .before .before .before .before .before .before .before .before .before .before .shared-slice-known .given i .fits) (read .amount) in
     messages-turn (a .terms) (a .table .now) (headerIn (a .sheet .now) (a .ruling .header)) (a .ruling .fallen) (a .ruling .header .kind) (a .sheet .now) (a .section .at) (a .section .number) (stateOf (a .register .now) (a .positions .now)) (a .out .now) (l .register) (l .positions) (l .out) (totalsOf (l .tally)) (l .cursor .at) (l .j) (l .inv) (start .pre .1) (c .before .before .before .before .before .before .before .before .before .before .before .before .before .before .loop-test .taken) _ _ _ _
-    (rw (read .place, read .kind, c .before .before .before .before .before .before .before .before .before .before .before .before .message-line .ensures) at (judged .ensures))
+    (rw (read .place, read .kind, c .before .before .before .before .before .before .before .before .before .before .before .before .line-place .ensures) at (judged .ensures))
     (judged .kept .1 .1 .1 .0) (judged .kept .1 .1 .1 .1 .0) (judged .kept .1 .1 .1 .1 .1 .0) _ (read .amount) word _ (c .before .count-message .ensures) _ (read .moved)
 
 returns : tie.Need-returns Inv-loop μ-loop
@@ -77,5 +77,5 @@ returns c =
 pub judge-messages-spec : {M : Type 1} → statement M
 judge-messages-spec =
     tie.close
-    (tie.spec Inv-loop μ-loop (λ c κs. search needs) loop-holds message-requires message-line-requires judge-message-requires count-message-requires add-j (λ c. omega arith) loop-again
+    (tie.spec Inv-loop μ-loop (λ c κs. search needs) loop-holds message-requires line-place-requires judge-message-requires count-message-requires add-j (λ c. omega arith) loop-again
     (λ c. c .before .loop .inv .registerWide) (λ c. c .before .loop .inv .positionsWide) (λ c. c .before .loop .inv .outWide) returns)

@@ -26,7 +26,7 @@ returns-3 : tie.Need-returns-3
 returns-3 c =
     let args = c .before .before .before .before .before .before .before .before .before .before .args in
     let own = ap optionOf (sym (c .before .before .before .before .before .enum-told .given .1)) ∙ c .before .before .before .before .before .before .before .row-of .ensures .is in
-    let head = c .head-office .ensures in
+    let head = c .head-office-row .ensures in
     record { is = head .is ∙ route-head (args .date) (args .table .now) (args .bic .now) own (cc); within = head .within }
 
 pub route-spec : {M : Type 1} → statement M

@@ -22,10 +22,10 @@ abbrev μ-loop : tie.MeasureT-loop
 μ-loop out₀ at report bulks next₀ place₀ i₀ out next place i = bulks - i
 
 loop-holds : tie.Need-loop-holds Inv-loop μ-loop
-loop-holds c = (search needs, report-starts (c .before .before .before .before .before .args .report .now) (c .before .before .count-in .result) (c .first-section .result) (c .first-section .ensures), reading (bulks-none _ _) (nothing-printed (c .before .before .before .before .before .args .out .now) (c .before .before .before .before .before .args .at) (c .before .least .result) (c .before .least .ensures)))
+loop-holds c = (search needs, report-starts (c .before .before .before .before .before .args .report .now) (c .before .before .count-in .result) (c .sections-place .result) (c .sections-place .ensures), reading (bulks-none _ _) (nothing-printed (c .before .before .before .before .before .args .out .now) (c .before .before .before .before .before .args .at) (c .before .least .result) (c .before .least .ensures)))
 
 loop-again : tie.Need-loop-again Inv-loop μ-loop
-loop-again c = (search needs, report-place (c .before .before .before .before .before .before .before .before .before .before .before .before .before .before .before .before .before .before .args .report .now) (c .before .before .before .before .before .before .before .before .before .before .before .before .before .before .before .count-in .result) (c .before .before .before .before .before .before .before .before .before .before .before .before .loop .i) (c .before .before .before .before .before .before .before .before .before .before .before .before .loop .place) (c .before .before .before .before .before .before .before .before .before .before .before .before .loop .inv .1) (c .next-section .result) (c .next-section .ensures), reading (report-turn (c .before .before .before .before .before .before .before .before .before .before .before .before .before .before .before .before .before .before .args .report .now) (c .before .before .before .before .before .before .before .before .before .before .before .before .before .before .before .count-in .result) (c .before .before .before .before .before .before .before .before .before .before .before .before .loop .i) (c .before .before .before .before .before .before .before .before .before .before .before .before .loop .place) (c .before .before .before .before .before .before .before .before .before .before .before .before .loop .inv .1) (c .before .before .before .before .before .before .before .before .before .bulk-line .result .now) (c .before .before .before .before .sections-from .result .now) (c .before .before .before .before .before .before .before .before .before .bulk-line .ensures) (c .before .before .before .before .sections-from .ensures)) (then (then (c .before .before .before .before .before .before .before .before .before .before .before .before .loop .inv .2) (c .before .before .before .before .before .before .before .before .put-bulk .ensures)) (c .before .before .before .put-section .ensures)))
+loop-again c = (search needs, report-place (c .before .before .before .before .before .before .before .before .before .before .before .before .before .before .before .before .before .before .args .report .now) (c .before .before .before .before .before .before .before .before .before .before .before .before .before .before .before .count-in .result) (c .before .before .before .before .before .before .before .before .before .before .before .before .loop .i) (c .before .before .before .before .before .before .before .before .before .before .before .before .loop .place) (c .before .before .before .before .before .before .before .before .before .before .before .before .loop .inv .1) (c .next-section .result) (c .next-section .ensures), reading (report-turn (c .before .before .before .before .before .before .before .before .before .before .before .before .before .before .before .before .before .before .args .report .now) (c .before .before .before .before .before .before .before .before .before .before .before .before .before .before .before .count-in .result) (c .before .before .before .before .before .before .before .before .before .before .before .before .loop .i) (c .before .before .before .before .before .before .before .before .before .before .before .before .loop .place) (c .before .before .before .before .before .before .before .before .before .before .before .before .loop .inv .1) (c .before .before .before .before .before .before .before .before .before .bulk-line-at .result .now) (c .before .before .before .before .sections-from .result .now) (c .before .before .before .before .before .before .before .before .before .bulk-line-at .ensures) (c .before .before .before .before .sections-from .ensures)) (then (then (c .before .before .before .before .before .before .before .before .before .before .before .before .loop .inv .2) (c .before .before .before .before .before .before .before .before .put-bulk .ensures)) (c .before .before .before .put-section .ensures)))
 
 same-length : tie.Need-same-length Inv-loop μ-loop
 same-length c = printed-length (c .before .loop .inv .2)

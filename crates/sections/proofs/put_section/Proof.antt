@@ -19,7 +19,7 @@ loop-holds : tie.Need-loop-holds Inv-loop μ-loop
 loop-holds c = (search needs, reading (messages-none _) (nothing-printed (c .before .before .before .before .args .out .now) (c .before .before .before .before .args .at) (c .least .result) (c .least .ensures)))
 
 loop-again : tie.Need-loop-again Inv-loop μ-loop
-loop-again c = (search needs, reading (section-turn (c .before .before .before .before .before .before .before .before .before .before .before .args .section .now) (c .before .before .before .before .before .before .loop .i) (c .before .before .before .message-line .result .now) (c .before .before .before .message-line .ensures)) (then (c .before .before .before .before .before .before .loop .inv .1) (c .before .before .put-message .ensures)))
+loop-again c = (search needs, reading (section-turn (c .before .before .before .before .before .before .before .before .before .before .before .args .section .now) (c .before .before .before .before .before .before .loop .i) (c .before .before .before .message-line-at .result .now) (c .before .before .before .message-line-at .ensures)) (then (c .before .before .before .before .before .before .loop .inv .1) (c .before .before .put-message .ensures)))
 
 same-length : tie.Need-same-length Inv-loop μ-loop
 same-length c = printed-length (c .before .loop .inv .1)

@@ -18,7 +18,7 @@ bulk-faults-requires : tie.Need-bulk-faults-requires
 bulk-faults-requires c κs =
     let start = c .before .before .before .before .before .before .before .before .before in
     let a = start .args in
-    bulk-asked (a .terms) (a .sheet .now) (a .table .now) (a .positions .now) (a .header) (start .pre .0) _ (c .before .before .before .sender .ensures) (c .before .before .head-office .result) (c .before .before .head-office .ensures)
+    bulk-asked (a .terms) (a .sheet .now) (a .table .now) (a .positions .now) (a .header) (start .pre .0) _ (c .before .before .before .sender .ensures) (c .before .before .head-office-row .result) (c .before .before .head-office-row .ensures)
 
 lines-at-requires : tie.Need-lines-at-requires
 lines-at-requires c κs =
@@ -37,7 +37,7 @@ judge-messages-requires : tie.Need-judge-messages-requires
 judge-messages-requires c κs =
     let start = c .before .before .before .before .before .before .before .before .before .before .before .before .before .before .before .before .before .before in
     let a = start .args in
-    let office = c .before .before .before .before .before .before .before .before .before .before .before .head-office in
+    let office = c .before .before .before .before .before .before .before .before .before .before .before .head-office-row in
     let counted = c .before .before .before .before .before .before .put-count in (
       ruling-ready (a .terms) (a .sheet .now) (a .table .now) (a .positions .now) (a .header) (start .pre .0) _ (c .before .before .before .before .before .before .before .before .before .before .before .before .sender .ensures) (office .result) (office .ensures) _,
       start .pre .1,

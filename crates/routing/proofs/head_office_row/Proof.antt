@@ -1,11 +1,11 @@
--- `routing::head_office` meets its contract. Assumes nothing.
+-- `routing::head_office_row` meets its contract. Assumes nothing.
 use mathlib.Core.Path.{sym, ap, _∙_}
 use lib.Seq.{length-take-le}
 use Rattle.routing.specs.Lookup.{rowOf}
 use Rattle.routing.proofs.Laws.{head-length, head-written}
 use borrow.Author.Needs.{needs}
-use Rattle.routing.proofs.head_office.Statement.{statement}
-use Rattle.routing.proofs.head_office.Tie as tie
+use Rattle.routing.proofs.head_office_row.Statement.{statement}
+use Rattle.routing.proofs.head_office_row.Tie as tie
 
 array-share-prefix-head : tie.Need-array-share-prefix-head
 array-share-prefix-head c =
@@ -24,5 +24,5 @@ returns c =
       within = c .row-of .ensures .within;
     }
 
-pub head-office-spec : {M : Type 1} → statement M
-head-office-spec = tie.close (tie.spec (λ c κs. search needs) (λ c. search needs) (λ c. search needs) (λ c κs. search needs) array-share-prefix-head slice-aggregate-row-of (λ c κs. search needs) returns)
+pub head-office-row-spec : {M : Type 1} → statement M
+head-office-row-spec = tie.close (tie.spec (λ c κs. search needs) (λ c. search needs) (λ c. search needs) (λ c κs. search needs) array-share-prefix-head slice-aggregate-row-of (λ c κs. search needs) returns)
