@@ -8,17 +8,14 @@ use lib.ListN.{length, length-append}
 use lib.Seq.{sets}
 use Rattle.wire.proofs.Stores.{sets-then, sets-swap}
 use Rattle.routing.specs.Table.{rows}
-use Rattle.sheet.specs.Sheet.{countWidth as sheetCount, headerWidth, kindOf, headerAt, countAt, afterMessages, Bulk, bulkAt, bulksFrom, bulksOf, bulkCount, firstSection, endFrom, messagesFrom, messageCount}
+use Rattle.sheet.specs.Sheet.{countWidth as sheetCount, headerWidth, widthAt, countAt, afterMessages, Bulk, bulkAt, bulksFrom, bulksOf, bulkCount, firstSection, endFrom, messagesFrom, messageCount}
 use Rattle.sheet.specs.Reading.{HeaderRead, Inside, BulkTaken}
-use Rattle.sheet.specs.declared.Header.{Header}
-use Rattle.sheet.specs.declared.Section.{Section}
 use Rattle.sheet.specs.declared.BulkRead.{BulkRead}
-use Rattle.sheet.proofs.Laws.{whole-facts, header-bound, end-step, end-bound, messages-step, bulks-step, bulks-end}
+use Rattle.sheet.proofs.Bulks.{BulkWide, bulk-wide, bulks-wide}
+use Rattle.sheet.proofs.Laws.{whole-facts, records-length, bulks-length, header-bound, end-step, end-bound, messages-step, bulks-step, bulks-end}
 use Rattle.positions.specs.Positions.{positionWidth}
 use Rattle.rules.specs.declared.Terms.{Terms}
-use Rattle.tally.specs.Room.{mostCounted}
 use Rattle.report.specs.Line.{countWidth, firstLine, sectionsPlace, afterLines, messageLineWidth, bulkLineWidth}
-use Rattle.report.specs.Told.{PlacesTold}
 use Rattle.report.specs.declared.Places.{Places}
 use Rattle.refusing.specs.Refusals.{mostMessages}
 use Rattle.refusing.specs.declared.Contents.{Contents}
@@ -164,17 +161,26 @@ module _ (terms : Terms) (table sheet : List ℕ) (bulks : ℕ) (before : State)
         theSection : List ℕ
         theSection = sectionOf terms table (bulkAt sheet head at) (stateOf register positions)
 
+        here-wide : BulkWide (bulkAt sheet head at)
+        here-wide = bulk-wide sheet head at (header-within h) (bulk-inside h .messages)
+
         line-long : length theLine ≡ bulkLineWidth
         unfolding theLine
-        line-long = bulk-line-wide terms table sheet (bulkAt sheet head at) head (stateOf register positions) refl (header-within h)
+        line-long = bulk-line-wide terms table (bulkAt sheet head at) (stateOf register positions) here-wide
 
         section-long : length theSection ≡ countWidth + messageLineWidth * n
         unfolding theSection
-        section-long = rw en (section-wide terms table sheet (bulkAt sheet head at) (kindOf (headerAt sheet head)) (countAt sheet at) (at + sheetCount) (stateOf register positions) refl (bulk-inside h .messages))
+        section-long =
+            section-wide terms table (bulkAt sheet head at) (stateOf register positions) here-wide
+            ∙ (rw (records-length (widthAt sheet head) sheet (countAt sheet at) (at + sheetCount), en))
 
         left-long : length linesLeft ≡ bulkLineWidth * (bulks - (k + 1))
         unfolding linesLeft
-        left-long = bulk-lines-wide terms table sheet (bulks - (k + 1)) (head + headerWidth) (afterMessages sheet head at) _ (let a = left .headHere in let b = left .headed in omega arith)
+        left-long =
+            let over = afterMessages sheet head at in
+            bulk-lines-wide terms table (bulksFrom sheet (bulks - (k + 1)) (head + headerWidth) over) _
+            (bulks-wide sheet (bulks - (k + 1)) (head + headerWidth) over (let a = left .headHere in let b = left .headed in omega arith) (le-of-eq (sym (end-step sheet bulks k head at h) ∙ left .ended)))
+            ∙ (rw (bulks-length sheet (bulks - (k + 1)) (head + headerWidth) over))
 
         apart : line + length (theLine ++ linesLeft) ≤ to
         apart =

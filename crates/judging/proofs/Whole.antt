@@ -9,8 +9,7 @@ use lib.Seq.{sets}
 use Rattle.wire.specs.Field.{bytesOf}
 use Rattle.wire.proofs.Numbers.{bytes-length}
 use Rattle.wire.proofs.Stores.{sets-then}
-use Rattle.sheet.specs.Sheet.{countWidth as sheetCount, headerWidth, bulkCount, messageCount, firstSection}
-use Rattle.sheet.proofs.Laws.{whole-facts}
+use Rattle.sheet.specs.Sheet.{bulkCount, messageCount}
 use Rattle.tally.specs.Room.{mostCounted}
 use Rattle.report.specs.Line.{countWidth, bulkLineWidth, firstLine, sectionsPlace, reportLength}
 use Rattle.refusing.specs.Refusals.{Call, refusal}
@@ -26,7 +25,7 @@ use Rattle.messages.specs.Ready.{stateOf}
 use Rattle.judging.specs.Outcome.{left, judgement, judgedOf, outcome}
 use Rattle.judging.specs.Ready.{BulksReady, BulksTold}
 use Rattle.judging.specs.declared.Answer.the-variants.{Refused, Judged}
-use Rattle.judging.proofs.Widths.{bulk-lines-wide}
+use Rattle.judging.proofs.Widths.{lines-length}
 
 -- the check from its first condition on is the whole check
 pub refused-told : (call : Call) (checked : Checked) (r : Refusal) → checked ≡ Stopped r → Told Date call checked
@@ -62,8 +61,7 @@ module _ (call : Call) (checked : Checked) (contents : Contents) (e : checked �
     whole-report : report' ≡ sets (call .report) 0 (bytesOf countWidth (contents .bulks) ++ judgement call .lines ++ judgement call .sections)
     whole-report =
         let m = passed .1 in
-        let headed : sheetCount + headerWidth * bulkCount (call .sheet) ≤ length (call .sheet) = whole-facts (call .sheet) (m .whole) .headed in
-        let long : length (judgement call .lines) ≡ bulkLineWidth * contents .bulks = rw (m .bulkCount) (bulk-lines-wide (call .terms) (call .table) (call .sheet) (bulkCount (call .sheet)) sheetCount (firstSection (call .sheet)) _ headed) in
+        let long : length (judgement call .lines) ≡ bulkLineWidth * contents .bulks = rw (m .bulkCount) (lines-length call (m .whole)) in
         let front : length (bytesOf countWidth (contents .bulks) ++ judgement call .lines) ≡ sectionsPlace (contents .bulks) = length-append (bytesOf countWidth (contents .bulks)) _ ∙ (rw (bytes-length countWidth (contents .bulks), long)) in
         judged .written
         ∙ ap (λ (r : List ℕ). sets (sets r firstLine (judgement call .lines)) (sectionsPlace (contents .bulks)) (judgement call .sections)) count

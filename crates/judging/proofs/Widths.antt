@@ -1,41 +1,88 @@
--- How long the lines and sections of a judgement are. Assumes nothing.
-use mathlib.Core.Path.{_≡_, refl, ap, ap₂, _∙_}
-use mathlib.Core.List.{List}
-use Prim.Native.Nat.{ℕ, zero, suc, _+_, _*_, _≤_}
+-- How long the lines and sections of a judgement are, and the report that they make. Assumes nothing.
+use mathlib.Core.Path.{_≡_, refl, ap₂, _∙_}
+use mathlib.Core.Bool.{true}
+use mathlib.Core.List.{List, [], _∷_, _++_}
+use Prim.Native.Nat.{ℕ, _+_, _*_}
 use native.Mathlib.Omega.{arith}
 use lib.ListN.{length, length-append}
 use Rattle.wire.specs.Field.{bytesOf}
 use Rattle.wire.proofs.Numbers.{bytes-length}
-use Rattle.sheet.specs.Sheet.{headerWidth, messageWidth, headerAt, recordsAt, afterMessages, Bulk, bulkAt, bulksFrom, bulkIdentifierOf}
-use Rattle.sheet.proofs.Fields.{bulk-identifier-width}
+use Rattle.sheet.specs.Sheet.{kindOf, Bulk, bulkIdentifierOf, countMessages, countWidth as sheetCount, bulkCount, messageCount, firstSection, bulksOf, whole}
+use Rattle.sheet.proofs.Bulks.{BulkWide, BulksWide, bulks-wide}
+use Rattle.sheet.proofs.Fields.{bulk-identifier-long}
+use Rattle.sheet.proofs.Laws.{whole-facts, bulks-length, bulks-messages}
 use Rattle.rules.specs.declared.Terms.{Terms}
-use Rattle.report.specs.Line.{countWidth, messageLineWidth, bulkLineWidth}
+use Rattle.report.specs.Line.{countWidth, messageLineWidth, bulkLineWidth, sectionsPlace, reportLength}
 use Rattle.report.proofs.Laws.{bulk-line-length}
-use Rattle.messages.specs.Messages.{State, judgeMessages}
+use Rattle.refusing.specs.Refusals.{Call}
+use Rattle.messages.specs.Messages.{State}
 use Rattle.messages.proofs.Widths.{lines-wide}
 use Rattle.judging.specs.Judgement.{falls, bulkLineOf, sectionOf, afterBulk, judgeBulks}
+use Rattle.judging.specs.Outcome.{judgement, reportOf}
 
-module _ (terms : Terms) (table sheet : List ℕ) where
-  pub section-wide : (bulk : Bulk) (kind n at : ℕ) (before : State) → bulk .messages ≡ recordsAt (messageWidth kind) sheet n at → at + messageWidth kind * n ≤ length sheet
-      → length (sectionOf terms table bulk before) ≡ countWidth + messageLineWidth * n
+module _ (terms : Terms) (table : List ℕ) where
+  pub section-wide : (b : Bulk) (before : State) → BulkWide b → length (sectionOf terms table b before) ≡ countWidth + messageLineWidth * length (b .messages)
   unfolding sectionOf
-  section-wide bulk kind n at before e h =
-      let fallen = falls terms table bulk before in
-      length-append (bytesOf countWidth (length (bulk .messages))) _
-      ∙ ap₂ _+_ (bytes-length countWidth (length (bulk .messages)))
-      (ap (λ (ms : List (List ℕ)). length (judgeMessages terms table (bulk .header) fallen ms before .lines)) e ∙ lines-wide terms table (bulk .header) fallen kind sheet n at before h)
+  section-wide b before wide =
+      length-append (bytesOf countWidth (length (b .messages))) _
+      ∙ ap₂ _+_ (bytes-length countWidth (length (b .messages))) (lines-wide terms table (b .header) (falls terms table b before) (kindOf (b .header)) (b .messages) before (wide .messages))
 
-  pub bulk-line-wide : (bulk : Bulk) (head : ℕ) (before : State) → bulk .header ≡ headerAt sheet head → head + headerWidth ≤ length sheet
-      → length (bulkLineOf terms table bulk before) ≡ bulkLineWidth
+  pub bulk-line-wide : (b : Bulk) (before : State) → BulkWide b → length (bulkLineOf terms table b before) ≡ bulkLineWidth
   unfolding bulkLineOf
-  bulk-line-wide bulk head before e h =
-      bulk-line-length (bulkIdentifierOf (bulk .header)) _ _ (ap (λ (x : List ℕ). length (bulkIdentifierOf x)) e ∙ bulk-identifier-width sheet head h) _
+  bulk-line-wide b before wide = bulk-line-length (bulkIdentifierOf (b .header)) _ _ (bulk-identifier-long (b .header) (wide .header)) _
 
-  pub bulk-lines-wide : (n head at : ℕ) (before : State) → head + headerWidth * n ≤ length sheet
-      → length (judgeBulks terms table (bulksFrom sheet n head at) before .lines) ≡ bulkLineWidth * n
-  unfolding bulksFrom judgeBulks
-  bulk-lines-wide zero head at before h = refl
-  bulk-lines-wide (suc n) head at before h =
-      let first = bulk-line-wide (bulkAt sheet head at) head before refl (omega arith) in
-      let rest = bulk-lines-wide n (head + headerWidth) (afterMessages sheet head at) (afterBulk terms table (bulkAt sheet head at) before) (omega arith) in
-      length-append (bulkLineOf terms table (bulkAt sheet head at) before) _ ∙ (rw (first, rest) (omega arith))
+  pub bulk-lines-wide : (bs : List Bulk) (before : State) → BulksWide bs → length (judgeBulks terms table bs before .lines) ≡ bulkLineWidth * length bs
+  unfolding judgeBulks BulksWide
+  bulk-lines-wide [] before wide = refl
+  bulk-lines-wide (b ∷ bs) before wide =
+      let first = bulk-line-wide b before (wide .0) in
+      let rest = bulk-lines-wide bs (afterBulk terms table b before) (wide .1) in
+      length-append (bulkLineOf terms table b before) _ ∙ (rw (first, rest) (omega arith))
+
+  pub sections-wide : (bs : List Bulk) (before : State) → BulksWide bs → length (judgeBulks terms table bs before .sections) ≡ countWidth * length bs + messageLineWidth * countMessages bs
+  unfolding judgeBulks BulksWide countMessages
+  sections-wide [] before wide = omega arith
+  sections-wide (b ∷ bs) before wide =
+      let first = section-wide b before (wide .0) in
+      let rest = sections-wide bs (afterBulk terms table b before) (wide .1) in
+      length-append (sectionOf terms table b before) _ ∙ (rw (first, rest) (omega arith))
+
+-- ---- of a whole sheet
+
+module _ (call : Call) (e : whole (call .sheet) ≡ true) where
+  abbrev b : ℕ
+  b = bulkCount (call .sheet)
+
+  abbrev m : ℕ
+  m = messageCount (call .sheet)
+
+  pub all-wide : BulksWide (bulksOf (call .sheet))
+  all-wide =
+      let facts = whole-facts (call .sheet) e in
+      bulks-wide (call .sheet) b sheetCount (firstSection (call .sheet)) (facts .headed) (let end = facts .ended in omega arith)
+
+  pub bulk-number : length (bulksOf (call .sheet)) ≡ b
+  bulk-number = bulks-length (call .sheet) b sheetCount (firstSection (call .sheet))
+
+  pub message-number : countMessages (bulksOf (call .sheet)) ≡ m
+  message-number = bulks-messages (call .sheet) b sheetCount (firstSection (call .sheet))
+
+  pub lines-length : length (judgement call .lines) ≡ bulkLineWidth * b
+  lines-length =
+      bulk-lines-wide (call .terms) (call .table) (bulksOf (call .sheet)) (record { register = call .register; positions = call .positions }) all-wide
+      ∙ (rw bulk-number)
+
+  pub sections-length : length (judgement call .sections) ≡ countWidth * b + messageLineWidth * m
+  sections-length =
+      sections-wide (call .terms) (call .table) (bulksOf (call .sheet)) (record { register = call .register; positions = call .positions }) all-wide
+      ∙ (rw (bulk-number, message-number))
+
+  -- what stands before the sections
+  abbrev pub front : List ℕ
+  front = bytesOf countWidth b ++ judgement call .lines
+
+  pub front-length : length front ≡ sectionsPlace b
+  front-length = length-append (bytesOf countWidth b) (judgement call .lines) ∙ (rw (bytes-length countWidth b, lines-length))
+
+  pub report-length : length (reportOf b (judgement call)) ≡ reportLength b m
+  report-length = length-append front (judgement call .sections) ∙ (rw (front-length, sections-length) (omega arith))

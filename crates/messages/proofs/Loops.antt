@@ -8,6 +8,7 @@ use native.Mathlib.Omega.{arith}
 use lib.ListN.{length}
 use lib.Seq.{sets}
 use Rattle.sheet.specs.Sheet.{messageWidth, messageAt, recordsAt, amountOf}
+use Rattle.sheet.proofs.Fields.{message-width}
 use Rattle.sheet.proofs.Laws.{records-step, records-end, message-bound}
 use Rattle.tally.specs.Tally.{Totals, nothing, withAccepted, withRejected, totalsOf}
 use Rattle.tally.specs.Room.{Within}
@@ -88,7 +89,7 @@ module _ (terms : Terms) (table header : List ℕ) (fallen : Bool) (kind : ℕ) 
       state-next = λ i. record { register = told .register i; positions = told .positions i }
 
       line-long : length (lineOf terms table header fallen (messageAt kind sheet place) (stateOf register positions)) ≡ messageLineWidth
-      line-long = line-wide terms table header fallen kind sheet place (stateOf register positions) (message-within ready h)
+      line-long = line-wide terms table header fallen kind (messageAt kind sheet place) (stateOf register positions) (message-width kind sheet place (message-within ready h))
 
       next-line : messageLineWidth * (j + 1) ≡ messageLineWidth * j + messageLineWidth
       next-line = omega arith

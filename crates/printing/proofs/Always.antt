@@ -8,7 +8,7 @@ use native.Mathlib.Omega.{arith}
 use lib.ListN.{length, take}
 use borrow.Author.Tests.{eq-eqb, le-ltb}
 use Rattle.routing.specs.Table.{rows}
-use Rattle.sheet.specs.Sheet.{bulkCount, messageCount, firstSection, whole}
+use Rattle.sheet.specs.Sheet.{countWidth, bulkCount, messageCount, firstSection, whole}
 use Rattle.sheet.proofs.Laws.{whole-facts}
 use Rattle.positions.specs.Positions.{positionWidth}
 use Rattle.report.specs.Line.{reportLength}
@@ -20,7 +20,7 @@ use Rattle.frame.specs.Read.{Begins, ReadOf}
 use Rattle.frame.proofs.Laws.{sheet-fits, read-shape, read-whole}
 use Rattle.printing.specs.Response.{callIn, mostResponse, response}
 use Rattle.printing.specs.Writing.{Answered, AnsweredAll}
-use Rattle.printing.proofs.Reports.{sheet-length}
+use Rattle.sheet.proofs.Bulks.{sheet-length}
 use Rattle.printing.proofs.Shapes.{zeros-length}
 
 -- ---- longer input
@@ -58,7 +58,7 @@ answered-all {buffer} {before} {after} {n} {written} read of room answered =
 report-no-longer : (sheet : List ℕ) → whole sheet ≡ true → reportLength (bulkCount sheet) (messageCount sheet) ≤ length sheet
 report-no-longer sheet e =
     let lines = lines-small (messageCount sheet) in
-    let size = sheet-length sheet (bulkCount sheet) 4 (firstSection sheet) in
+    let size = sheet-length sheet (bulkCount sheet) countWidth (firstSection sheet) in
     let end = whole-facts sheet e .ended in
     omega arith
 

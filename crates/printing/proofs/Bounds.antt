@@ -18,13 +18,14 @@ use Rattle.judging.specs.Outcome.{Outcome, outcome, left}
 use Rattle.refusing.proofs.Clear.{clear-of}
 use Rattle.refusing.proofs.Numbers.{refusal-small}
 use Rattle.judging.proofs.Answers.{number-is, outcome-judged}
+use Rattle.judging.proofs.Widths.{report-length}
 use Rattle.judging.specs.declared.Answer.{Answer}
 use Rattle.figures.specs.Figures.{refusalText}
 use Rattle.figures.proofs.Lengths.{refusal-short}
 use Rattle.sections.specs.Sections.{judgedText}
 use Rattle.sections.proofs.Lengths.{all-positions-short, used-short}
 use Rattle.printing.specs.Response.{outcomeText}
-use Rattle.printing.proofs.Reports.{judgedReport, report-length, report-short}
+use Rattle.printing.proofs.Reports.{judgedReport, report-short}
 
 -- ---- the number of a refusal
 
@@ -49,7 +50,7 @@ module _ (call : Call) (sheet : Bytes (call .sheet)) (register : Bytes (outcome 
       let written : outcome call .report ≡ sets (call .report) 0 (judgedReport call) = ap (λ (o : Outcome). o .report) is in
       let read : take (outcome call .length) (outcome call .report) ≡ judgedReport call =
       rw (long, written)
-      (part-stored (call .report) 0 (reportLength (bulkCount (call .sheet)) (messageCount (call .sheet))) (judgedReport call) (report-length call sheet (clear .whole)) (omega (arith, clear .space))) in
+      (part-stored (call .report) 0 (reportLength (bulkCount (call .sheet)) (messageCount (call .sheet))) (judgedReport call) (report-length call (clear .whole)) (omega (arith, clear .space))) in
       let lines : Bytes (judgedReport call) = rw read at (take-bytes (outcome call .length) (outcome call .report) report) in
       let first = report-short call sheet (clear .whole) lines in
       let second = all-positions-short (outcome call .positions) positions few in

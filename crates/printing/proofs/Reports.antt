@@ -4,7 +4,7 @@ use mathlib.Core.Path.{_≡_, refl, sym, ap, _∙_}
 use mathlib.Core.Bool.{true}
 use mathlib.Core.List.{List, [], _++_, append-nil, append-assoc}
 use Prim.Native.Nat.{ℕ, zero, suc, _+_, _*_, _^_, _≤_, _<_}
-use native.Mathlib.Nat.{mod-eq-of-lt, lt-of-lt-of-le, pow-le-pow-right, mul-le-mul-right}
+use native.Mathlib.Nat.{mod-eq-of-lt, lt-of-lt-of-le, pow-le-pow-right}
 use native.Mathlib.Omega.{arith}
 use lib.Dec.{lit<}
 use lib.ListN.{length, drop, length-append}
@@ -12,16 +12,16 @@ use lib.Seq.{take-at, drop-at}
 use Rattle.wire.specs.Field.{Bytes, part, numberOf, bytesOf}
 use Rattle.wire.proofs.Numbers.{number-below, bytes-length, written-read}
 use Rattle.wire.proofs.Texts.{part-bytes, part-short, drop-bytes}
-use Rattle.sheet.specs.Sheet.{headerWidth, fieldsWidth, kindOf, headerAt, widthAt, recordsAt, countAt, afterMessages, bulkAt, bulksFrom, bulkCount, messageCount, firstSection, endFrom, messagesFrom, whole}
-use Rattle.sheet.proofs.Fields.{fields-fit}
+use Rattle.sheet.specs.Sheet.{countWidth, headerWidth, widthAt, recordsAt, countAt, afterMessages, bulkAt, bulksFrom, bulkCount, messageCount, firstSection, endFrom, messagesFrom, whole}
+use Rattle.sheet.proofs.Bulks.{bulk-wide, sheet-length}
 use Rattle.sheet.proofs.Laws.{bulk-inside, end-next, records-length, whole-facts}
-use Rattle.report.specs.Line.{bulkLineWidth, messageLineWidth, sectionsPlace, reportLength}
+use Rattle.report.specs.Line.{messageLineWidth, sectionsPlace}
 use Rattle.rules.specs.declared.Terms.{Terms}
 use Rattle.messages.specs.Messages.{State}
 use Rattle.judging.specs.Judgement.{judgeBulks, sectionOf, afterBulk, messagesJudged}
 use Rattle.refusing.specs.Refusals.{Call}
 use Rattle.judging.specs.Outcome.{judgement, reportOf}
-use Rattle.judging.proofs.Widths.{section-wide, bulk-lines-wide}
+use Rattle.judging.proofs.Widths.{section-wide, front-length}
 use Rattle.judging.proofs.Walks.{bulk-sections}
 use Rattle.sections.specs.Layout.{countIn, afterCount, laterSections}
 use Rattle.sections.specs.Sections.{bulksText, reportText}
@@ -29,12 +29,12 @@ use Rattle.sections.proofs.Lengths.{messagesRead, bulks-short}
 
 -- ---- a count, read back
 
-count-read : (n : ℕ) (xs : List ℕ) → n < 2 ^ 32 → countIn (bytesOf 4 n ++ xs) ≡ n
+count-read : (n : ℕ) (xs : List ℕ) → n < 2 ^ 32 → countIn (bytesOf countWidth n ++ xs) ≡ n
 count-read n xs h =
-    ap numberOf (take-at (bytesOf 4 n) xs 4 (bytes-length 4 n)) ∙ written-read 4 n ∙ mod-eq-of-lt h
+    ap numberOf (take-at (bytesOf countWidth n) xs countWidth (bytes-length countWidth n)) ∙ written-read countWidth n ∙ mod-eq-of-lt h
 
 counts-small : (s : List ℕ) (at : ℕ) → Bytes s → countAt s at < 2 ^ 32
-counts-small s at bytes = lt-of-lt-of-le (number-below (part s at 4) (part-bytes s at 4 bytes)) (pow-le-pow-right (lit< tt) {j = 4} (part-short s at 4))
+counts-small s at bytes = lt-of-lt-of-le (number-below (part s at countWidth) (part-bytes s at countWidth bytes)) (pow-le-pow-right (lit< tt) {j = countWidth} (part-short s at countWidth))
 
 -- ---- the sections
 
@@ -43,10 +43,10 @@ section-read : (terms : Terms) (table sheet : List ℕ) (head at : ℕ) (before 
 unfolding sectionOf
 section-read terms table sheet head at before xs bytes =
     let n = countAt sheet at in
-    let counted : length (recordsAt (widthAt sheet head) sheet n (at + 4)) ≡ n = records-length (widthAt sheet head) sheet n (at + 4) in
+    let counted : length (recordsAt (widthAt sheet head) sheet n (at + countWidth)) ≡ n = records-length (widthAt sheet head) sheet n (at + countWidth) in
     let lines = messagesJudged terms table (bulkAt sheet head at) before .lines in
-    ap countIn (append-assoc (bytesOf 4 (length (recordsAt (widthAt sheet head) sheet n (at + 4)))) lines xs)
-    ∙ ap (λ (k : ℕ). countIn (bytesOf 4 k ++ (lines ++ xs))) counted
+    ap countIn (append-assoc (bytesOf countWidth (length (recordsAt (widthAt sheet head) sheet n (at + countWidth)))) lines xs)
+    ∙ ap (λ (k : ℕ). countIn (bytesOf countWidth k ++ (lines ++ xs))) counted
     ∙ count-read n (lines ++ xs) (counts-small sheet at bytes)
 
 module _ (terms : Terms) (table sheet : List ℕ) (bytes : Bytes sheet) where
@@ -59,10 +59,10 @@ module _ (terms : Terms) (table sheet : List ℕ) (bytes : Bytes sheet) where
       let first = sectionOf terms table bulk before in
       let rest = judgeBulks terms table (bulksFrom sheet n (head + headerWidth) (afterMessages sheet head at)) (afterBulk terms table bulk before) .sections in
       let inside = bulk-inside sheet n head at (omega arith) h in
-      let wide : length first ≡ 4 + messageLineWidth * countAt sheet at = section-wide terms table sheet bulk (kindOf (headerAt sheet head)) (countAt sheet at) (at + 4) before refl (inside .messages) in
+      let wide : length first ≡ countWidth + messageLineWidth * countAt sheet at = section-wide terms table bulk before (bulk-wide sheet head at (omega arith) (inside .messages)) ∙ (rw (records-length (widthAt sheet head) sheet (countAt sheet at) (at + countWidth))) in
       let count : countIn (first ++ (rest ++ xs)) ≡ countAt sheet at = section-read terms table sheet head at before (rest ++ xs) bytes in
       let left : laterSections (first ++ (rest ++ xs)) ≡ rest ++ xs =
-      ap (λ (k : ℕ). drop (4 + messageLineWidth * k) (first ++ (rest ++ xs))) count ∙ drop-at first (rest ++ xs) (4 + messageLineWidth * countAt sheet at) wide in
+      ap (λ (k : ℕ). drop (countWidth + messageLineWidth * k) (first ++ (rest ++ xs))) count ∙ drop-at first (rest ++ xs) (countWidth + messageLineWidth * countAt sheet at) wide in
       let later : messagesRead n (rest ++ xs) ≡ messagesFrom sheet n (head + headerWidth) (afterMessages sheet head at) =
       sections-read n (head + headerWidth) (afterMessages sheet head at) (afterBulk terms table bulk before) xs (omega arith) (rw (end-next sheet n head at) at h) in
       ap (λ (s : List ℕ). messagesRead (suc n) (s ++ xs)) (bulk-sections terms table bulk _ before)
@@ -71,58 +71,23 @@ module _ (terms : Terms) (table sheet : List ℕ) (bytes : Bytes sheet) where
       ∙ ap (λ (s : List ℕ). countAt sheet at + messagesRead n s) left
       ∙ ap (λ (k : ℕ). countAt sheet at + k) later
 
-  pub sections-wide : (n head at : ℕ) (before : State) → head + headerWidth * n ≤ length sheet → endFrom sheet n head at ≤ length sheet
-      → length (judgeBulks terms table (bulksFrom sheet n head at) before .sections) ≡ 4 * n + messageLineWidth * messagesFrom sheet n head at
-  unfolding messagesFrom bulksFrom judgeBulks
-  sections-wide zero head at before headed h = omega arith
-  sections-wide (suc n) head at before headed h =
-      let bulk = bulkAt sheet head at in
-      let inside = bulk-inside sheet n head at (omega arith) h in
-      let wide = section-wide terms table sheet bulk (kindOf (headerAt sheet head)) (countAt sheet at) (at + 4) before refl (inside .messages) in
-      let rest = sections-wide n (head + headerWidth) (afterMessages sheet head at) (afterBulk terms table bulk before) (omega arith) (rw (end-next sheet n head at) at h) in
-      length-append (sectionOf terms table bulk before) _ ∙ (rw (wide, rest) (omega arith))
-
--- ---- the sheet's own length: a message takes all its fields, and maybe more
-
-pub sheet-length : (sheet : List ℕ) (n head at : ℕ) → at + 4 * n + fieldsWidth * messagesFrom sheet n head at ≤ endFrom sheet n head at
-unfolding endFrom messagesFrom
-sheet-length sheet zero head at = omega arith
-sheet-length sheet (suc n) head at =
-    let rest = sheet-length sheet n (head + headerWidth) (afterMessages sheet head at) in
-    let wide = mul-le-mul-right {m = fieldsWidth} {n = widthAt sheet head} (countAt sheet at) (fields-fit (kindOf (headerAt sheet head))) in
-    omega arith
-
 -- ---- the report of a whole sheet
 
 abbrev pub judgedReport : Call → List ℕ
 judgedReport call = reportOf (bulkCount (call .sheet)) (judgement call)
 
 module _ (call : Call) (bytes : Bytes (call .sheet)) (e : whole (call .sheet) ≡ true) where
-  ended : endFrom (call .sheet) (bulkCount (call .sheet)) 4 (firstSection (call .sheet)) ≤ length (call .sheet)
+  ended : endFrom (call .sheet) (bulkCount (call .sheet)) countWidth (firstSection (call .sheet)) ≤ length (call .sheet)
   ended = let end = whole-facts (call .sheet) e .ended in omega arith
-
-  lines-length : length (judgement call .lines) ≡ bulkLineWidth * bulkCount (call .sheet)
-  lines-length =
-      bulk-lines-wide (call .terms) (call .table) (call .sheet) (bulkCount (call .sheet)) 4 (firstSection (call .sheet)) _ (whole-facts (call .sheet) e .headed)
-
-  front-length : length (bytesOf 4 (bulkCount (call .sheet)) ++ judgement call .lines) ≡ 4 + bulkLineWidth * bulkCount (call .sheet)
-  front-length =
-      length-append (bytesOf 4 (bulkCount (call .sheet))) (judgement call .lines) ∙ (rw (bytes-length 4 (bulkCount (call .sheet)), lines-length))
-
-  pub report-length : length (judgedReport call) ≡ reportLength (bulkCount (call .sheet)) (messageCount (call .sheet))
-  report-length =
-      let wide = sections-wide (call .terms) (call .table) (call .sheet) bytes (bulkCount (call .sheet)) 4 (firstSection (call .sheet)) (record { register = call .register; positions = call .positions }) (whole-facts (call .sheet) e .headed) ended in
-      length-append (bytesOf 4 (bulkCount (call .sheet)) ++ judgement call .lines) (judgement call .sections)
-      ∙ (rw (front-length, wide) (omega arith))
 
   report-text : reportText (judgedReport call) ≡ bulksText (bulkCount (call .sheet)) (afterCount (judgedReport call)) (judgement call .sections)
   unfolding reportText
   report-text =
       let count : countIn (judgedReport call) ≡ bulkCount (call .sheet) =
-      ap countIn (append-assoc (bytesOf 4 (bulkCount (call .sheet))) (judgement call .lines) (judgement call .sections))
+      ap countIn (append-assoc (bytesOf countWidth (bulkCount (call .sheet))) (judgement call .lines) (judgement call .sections))
       ∙ count-read (bulkCount (call .sheet)) (judgement call .lines ++ judgement call .sections) (counts-small (call .sheet) 0 bytes) in
       let left : drop (sectionsPlace (bulkCount (call .sheet))) (judgedReport call) ≡ judgement call .sections =
-      drop-at (bytesOf 4 (bulkCount (call .sheet)) ++ judgement call .lines) (judgement call .sections) (4 + bulkLineWidth * bulkCount (call .sheet)) front-length in
+      drop-at (bytesOf countWidth (bulkCount (call .sheet)) ++ judgement call .lines) (judgement call .sections) (sectionsPlace (bulkCount (call .sheet))) (front-length call e) in
       rw (count, left)
 
   -- a report prints to no more than twice the sheet
@@ -130,12 +95,12 @@ module _ (call : Call) (bytes : Bytes (call .sheet)) (e : whole (call .sheet) �
   report-short written =
       let b = bulkCount (call .sheet) in
       let cut : drop (sectionsPlace b) (judgedReport call) ≡ judgement call .sections =
-      drop-at (bytesOf 4 b ++ judgement call .lines) (judgement call .sections) (4 + bulkLineWidth * b) front-length in
-      let sections : Bytes (judgement call .sections) = rw cut at (drop-bytes (4 + bulkLineWidth * b) (judgedReport call) written) in
-      let short = bulks-short b (afterCount (judgedReport call)) (judgement call .sections) (drop-bytes 4 (judgedReport call) written) sections in
+      drop-at (bytesOf countWidth b ++ judgement call .lines) (judgement call .sections) (sectionsPlace b) (front-length call e) in
+      let sections : Bytes (judgement call .sections) = rw cut at (drop-bytes (sectionsPlace b) (judgedReport call) written) in
+      let short = bulks-short b (afterCount (judgedReport call)) (judgement call .sections) (drop-bytes countWidth (judgedReport call) written) sections in
       let read : messagesRead b (judgement call .sections) ≡ messageCount (call .sheet) =
       ap (messagesRead b) (sym (append-nil (judgement call .sections)))
-      ∙ sections-read (call .terms) (call .table) (call .sheet) bytes b 4 (firstSection (call .sheet)) (record { register = call .register; positions = call .positions }) [] (whole-facts (call .sheet) e .headed) ended in
-      let size = sheet-length (call .sheet) b 4 (firstSection (call .sheet)) in
+      ∙ sections-read (call .terms) (call .table) (call .sheet) bytes b countWidth (firstSection (call .sheet)) (record { register = call .register; positions = call .positions }) [] (whole-facts (call .sheet) e .headed) ended in
+      let size = sheet-length (call .sheet) b countWidth (firstSection (call .sheet)) in
       let end = whole-facts (call .sheet) e .ended in
       rw report-text (omega arith)

@@ -17,13 +17,14 @@ use Rattle.refusing.specs.Refusals.{Call, refusal}
 use Rattle.judging.specs.Outcome.{Outcome, judgement, judgedOf, outcome}
 use Rattle.promises.specs.Reading.{InBytes, bulkLines, messageLines}
 use Rattle.promises.specs.Cut.{cutPlace, firstPart, secondPart, firstCall, secondCall, Enough, PartsMakeTheWhole, CutsAnywhere}
-use Rattle.promises.proofs.Bulks.{bulks-split, messages-split, end-split}
+use Rattle.sheet.proofs.Bulks.{bulks-split, messages-split, end-split}
 use Rattle.refusing.proofs.Clear.{Clear, clear-of, of-clear, headers, known-parts, order-parts}
 use Rattle.judging.proofs.Answers.{outcome-judged}
 use Rattle.promises.proofs.Fit.{Fit, bulks-fit}
 use Rattle.promises.proofs.Joined.{joins}
-use Rattle.promises.proofs.Lines.{bulk-lines-read, message-lines-read, bulk-number, message-number}
-use Rattle.promises.proofs.Taken.{Holds, taken-holds}
+use Rattle.judging.proofs.Widths.{bulk-number, message-number}
+use Rattle.promises.proofs.Lines.{bulk-lines-read, message-lines-read}
+use Rattle.sheet.proofs.Taken.{HoldsBulks, taken-holds}
 
 module _ (call : Call) (clear : Clear call) (k : ℕ) (h : k ≤ bulkCount (call .sheet)) where
   abbrev s : List ℕ
@@ -53,7 +54,7 @@ module _ (call : Call) (clear : Clear call) (k : ℕ) (h : k ≤ bulkCount (call
   cut-ends : endFrom s (b - k) (countWidth + headerWidth * k) cut ≡ length s
   cut-ends = sym (end-split s k (b - k) countWidth start) ∙ ap (λ (n : ℕ). endFrom s n countWidth start) all ∙ whole-facts s (clear .whole) .ended
 
-  first-holds : Holds one s k countWidth start
+  first-holds : HoldsBulks one s k countWidth start
   first-holds =
       let headed = whole-facts s (clear .whole) .headed in
       let forward = end-forward s k countWidth start in
@@ -62,7 +63,7 @@ module _ (call : Call) (clear : Clear call) (k : ℕ) (h : k ≤ bulkCount (call
       let small = few in
       taken-holds s k countWidth start (cut - start) (omega arith) (omega arith) (omega arith) (omega arith)
 
-  second-holds : Holds two s (b - k) (countWidth + headerWidth * k) cut
+  second-holds : HoldsBulks two s (b - k) (countWidth + headerWidth * k) cut
   second-holds =
       let headed = whole-facts s (clear .whole) .headed in
       let later = end-forward s (b - k) (countWidth + headerWidth * k) cut in
@@ -133,8 +134,8 @@ module _ (call : Call) (clear : Clear call) (k : ℕ) (h : k ≤ bulkCount (call
         let m = messages-are in
         let n = first-holds .count in
         let n' = second-holds .count in
-        let ln = bulk-number c1 first-clear in
-        let lm = message-number c1 first-clear in
+        let ln = bulk-number c1 (first-clear .whole) in
+        let lm = message-number c1 (first-clear .whole) in
         let r = clear .room in
         bulks-fit (call .terms) (call .table) (bulksOf one) before (bulkCount two + messageCount two) (messageCount two)
         (record {

@@ -27,9 +27,10 @@ use Rattle.judging.proofs.Answers.{outcome-judged, outcome-refused}
 use Rattle.promises.specs.Reading.{Payment, paymentOf, paymentKey, ownKey, keysBy, recordedFrom, recorded, withKeys}
 use Rattle.promises.specs.Demands.{centsPaid}
 use Rattle.promises.proofs.Added.{AllKeys, all-append, with-append, Added, none-added, all-added}
-use Rattle.promises.proofs.Bulks.{AllWide, AllShaped}
+use Rattle.sheet.proofs.Bulks.{MessagesWide, BulksWide}
 use Rattle.promises.proofs.Fit.{accepted-facts, verdict-facts, after-accepted, after-rejected}
-use Rattle.promises.proofs.Lines.{shaped, bulk-number, message-number, sections-read}
+use Rattle.judging.proofs.Widths.{all-wide, bulk-number, message-number}
+use Rattle.promises.proofs.Lines.{sections-read}
 use Rattle.promises.proofs.Said.{Stands, paid, said-bulk, rest-there}
 
 -- ---- the parts of a key have their widths
@@ -139,9 +140,9 @@ module _ (terms : Terms) (table : List ℕ) where
 
   -- ---- as the report tells it
 
-  told-bulks : (report : List ℕ) (at : ℕ) (bs : List Bulk) (before : State) → AllShaped bs → Stands report at (judgeBulks terms table bs before .sections)
+  told-bulks : (report : List ℕ) (at : ℕ) (bs : List Bulk) (before : State) → BulksWide bs → Stands report at (judgeBulks terms table bs before .sections)
       → recordedFrom report bs at ≡ enteredBy bs before
-  unfolding recordedFrom enteredBy AllShaped
+  unfolding recordedFrom enteredBy BulksWide
   told-bulks report at [] before shaped there = refl
   told-bulks report at (b ∷ bs) before shaped there =
       ap₂ (λ (x y : List (List ℕ)). x ++ y)
@@ -150,9 +151,9 @@ module _ (terms : Terms) (table : List ℕ) where
 
   -- ---- each is as wide as a key, and there are no more than bulks and messages
 
-  paid-wide : (header : List ℕ) → length header ≡ headerWidth → (fallen : Bool) (kind : ℕ) (ms : List (List ℕ)) (before : State) → AllWide kind ms
+  paid-wide : (header : List ℕ) → length header ≡ headerWidth → (fallen : Bool) (kind : ℕ) (ms : List (List ℕ)) (before : State) → MessagesWide kind ms
       → AllKeys (map paymentKey (paid terms table header fallen ms before))
-  unfolding paid AllWide AllKeys
+  unfolding paid MessagesWide AllKeys
   paid-wide header wide fallen kind [] before all = tt
   paid-wide header wide fallen kind (m ∷ ms) before all =
       by-verdict (isAccepted fallen (faultsOf terms table header m before)) (paid terms table header fallen ms (afterMessage terms table header fallen m before))
@@ -175,8 +176,8 @@ module _ (terms : Terms) (table : List ℕ) where
     wide : AllKeys es
     few : length es ≤ length bs + countMessages bs
 
-  entered-few : (bs : List Bulk) (before : State) → AllShaped bs → Few bs (enteredBy bs before)
-  unfolding enteredBy AllShaped countMessages AllKeys
+  entered-few : (bs : List Bulk) (before : State) → BulksWide bs → Few bs (enteredBy bs before)
+  unfolding enteredBy BulksWide countMessages AllKeys
   entered-few [] before all = record { wide = tt; few = omega arith }
   entered-few (b ∷ bs) before all =
       let taken = paidIn b before in
@@ -205,11 +206,11 @@ file-added call = by-answer (ℕ-discrete (refusal call) 0)
         let clear = clear-of call e in
         let before : State = record { register = call .register; positions = call .positions } in
         let bulks = bulksOf (call .sheet) in
-        let all = shaped call clear in
+        let all = all-wide call (clear .whole) in
         let entered = enteredBy (call .terms) (call .table) bulks before in
         let few = entered-few (call .terms) (call .table) bulks before all in
-        let n = bulk-number call clear in
-        let m = message-number call clear in
+        let n = bulk-number call (clear .whole) in
+        let m = message-number call (clear .whole) in
         let room = clear .room in
         let most = few .few in
         rw (outcome-judged call e, told-bulks (call .terms) (call .table) (judgedOf call (judgement call) .report) (sectionsPlace (bulkCount (call .sheet))) bulks before all (sections-read call clear), bulks-register (call .terms) (call .table) bulks before)

@@ -13,7 +13,7 @@ use Rattle.judging.specs.Outcome.{judgement, reportOf, outcome}
 use Rattle.judging.proofs.Answers.{outcome-judged}
 use Rattle.promises.specs.Demands.{LeavesTheRest}
 use Rattle.promises.proofs.Entered.{file-added}
-use Rattle.promises.proofs.Lines.{report-length}
+use Rattle.judging.proofs.Widths.{report-length}
 use Rattle.promises.proofs.Running.{file-tracked}
 
 -- ---- the report
@@ -24,7 +24,7 @@ module _ (call : Call) (e : refusal call ≡ 0) where
       let text = reportOf (bulkCount (call .sheet)) (judgement call) in
       let n = reportLength (bulkCount (call .sheet)) (messageCount (call .sheet)) in
       let all = length (call .report) in
-      let long : length text ≡ n = report-length call (clear-of call e) in
+      let long : length text ≡ n = report-length call (clear-of call e .whole) in
       rw (outcome-judged call e)
       (sym (take-all all (drop n (sets (call .report) 0 text)) (simp (length-drop, length-sets) (omega arith)))
       ∙ part-after (call .report) 0 text n all (omega arith)

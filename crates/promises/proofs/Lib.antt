@@ -1,6 +1,5 @@
 pub mod Added
 pub mod AtTheEdges
-pub mod Bulks
 pub mod Coming
 pub mod Control
 pub mod Cutting
@@ -18,7 +17,6 @@ pub mod Readings
 pub mod Running
 pub mod Said
 pub mod ShutOut
-pub mod Taken
 pub mod Telling
 pub mod Told
 pub mod Tracked

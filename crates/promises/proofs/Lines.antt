@@ -9,15 +9,13 @@ use lib.Seq.{take-all}
 use Rattle.wire.specs.Field.{part, numberOf, bytesOf}
 use Rattle.wire.proofs.Numbers.{bytes-length, written-read}
 use Rattle.wire.proofs.Stores.{part-stored}
-use Rattle.sheet.specs.Sheet.{countWidth, bulkCount, messageCount, firstSection, bulksOf, countMessages}
-use Rattle.sheet.proofs.Laws.{whole-facts, bulks-length, bulks-messages}
+use Rattle.sheet.specs.Sheet.{countWidth, bulkCount, messageCount}
 use Rattle.report.specs.Line.{bulkLineWidth, messageLineWidth, firstLine, sectionsPlace, reportLength}
 use Rattle.refusing.specs.Refusals.{Call}
 use Rattle.judging.specs.Outcome.{Outcome, judgement, reportOf, judgedOf}
 use Rattle.promises.specs.Reading.{lineCount, bulkLines, messageLines}
-use Rattle.promises.proofs.Bulks.{AllShaped, bulks-shaped}
 use Rattle.refusing.proofs.Clear.{Clear}
-use Rattle.promises.proofs.Joined.{bulk-lines-wide, sections-wide}
+use Rattle.judging.proofs.Widths.{lines-length, sections-length, front-length, report-length}
 use Rattle.wire.proofs.Texts.{part-part, part-front, part-back}
 
 module _ (call : Call) (clear : Clear call) where
@@ -30,42 +28,21 @@ module _ (call : Call) (clear : Clear call) where
   abbrev left : Outcome
   left = judgedOf call (judgement call)
 
-  pub shaped : AllShaped (bulksOf (call .sheet))
-  shaped =
-      let facts = whole-facts (call .sheet) (clear .whole) in
-      bulks-shaped (call .sheet) b countWidth (firstSection (call .sheet)) (facts .headed) (let e = facts .ended in omega arith)
-
-  pub bulk-number : length (bulksOf (call .sheet)) ≡ b
-  bulk-number = bulks-length (call .sheet) b countWidth (firstSection (call .sheet))
-
-  pub message-number : countMessages (bulksOf (call .sheet)) ≡ m
-  message-number = bulks-messages (call .sheet) b countWidth (firstSection (call .sheet))
-
-  lines-length : length (judgement call .lines) ≡ bulkLineWidth * b
-  lines-length =
-      bulk-lines-wide (call .terms) (call .table) (bulksOf (call .sheet)) (record { register = call .register; positions = call .positions }) shaped
-      ∙ (rw bulk-number)
-
-  sections-length : length (judgement call .sections) ≡ countWidth * b + messageLineWidth * m
-  sections-length =
-      sections-wide (call .terms) (call .table) (bulksOf (call .sheet)) (record { register = call .register; positions = call .positions }) shaped
-      ∙ (rw (bulk-number, message-number))
-
   abbrev front : List ℕ
   front = bytesOf countWidth b ++ judgement call .lines
 
-  front-length : length front ≡ sectionsPlace b
-  front-length = length-append (bytesOf countWidth b) (judgement call .lines) ∙ (rw (bytes-length countWidth b, lines-length))
+  abbrev report-long : length (reportOf b (judgement call)) ≡ reportLength b m
+  report-long = report-length call (clear .whole)
 
-  pub report-length : length (reportOf b (judgement call)) ≡ reportLength b m
-  report-length = length-append front (judgement call .sections) ∙ (rw (front-length, sections-length) (omega arith))
+  abbrev front-long : length front ≡ sectionsPlace b
+  front-long = front-length call (clear .whole)
 
   -- what stands in the report is read there, as it would be in the text that was written
   pub read-there : (o n : ℕ) → o + n ≤ reportLength b m → part (left .report) o n ≡ part (reportOf b (judgement call)) o n
   read-there o n h =
       let fits : 0 + reportLength b m ≤ length (call .report) = (let s = clear .space in omega arith) in
       sym (
-      ap (λ (xs : List ℕ). part xs o n) (sym (part-stored (call .report) 0 (reportLength b m) (reportOf b (judgement call)) report-length fits))
+      ap (λ (xs : List ℕ). part xs o n) (sym (part-stored (call .report) 0 (reportLength b m) (reportOf b (judgement call)) report-long fits))
       ∙ part-part (left .report) 0 (reportLength b m) o n h
       ∙ ap (λ (k : ℕ). part (left .report) k n) (zero-add o))
 
@@ -75,7 +52,7 @@ module _ (call : Call) (clear : Clear call) where
       let few = clear .fewBulks in
       ap numberOf (
       read-there 0 countWidth (omega arith)
-      ∙ part-front front (judgement call .sections) 0 countWidth (rw front-length (omega arith))
+      ∙ part-front front (judgement call .sections) 0 countWidth (rw front-long (omega arith))
       ∙ part-front (bytesOf countWidth b) (judgement call .lines) 0 countWidth (omega arith)
       ∙ take-all countWidth (bytesOf countWidth b) (omega arith))
       ∙ written-read countWidth b
@@ -83,27 +60,27 @@ module _ (call : Call) (clear : Clear call) where
 
   pub lines-read : (o n : ℕ) → o + n ≤ length (judgement call .lines) → part (left .report) (firstLine + o) n ≡ part (judgement call .lines) o n
   lines-read o n h =
-      let long = lines-length in
+      let long = lines-length call (clear .whole) in
       read-there (firstLine + o) n (omega arith)
-      ∙ part-front front (judgement call .sections) (firstLine + o) n (rw front-length (omega arith))
+      ∙ part-front front (judgement call .sections) (firstLine + o) n (rw front-long (omega arith))
       ∙ part-back (bytesOf countWidth b) (judgement call .lines) firstLine o n (bytes-length countWidth b)
 
   pub bulk-lines-read : bulkLines left ≡ judgement call .lines
   bulk-lines-read =
-      let long = lines-length in
+      let long = lines-length call (clear .whole) in
       ap (λ (k : ℕ). part (left .report) firstLine (bulkLineWidth * k)) count-read
       ∙ lines-read 0 (bulkLineWidth * b) (omega arith)
       ∙ take-all (bulkLineWidth * b) (judgement call .lines) (omega arith)
 
   pub sections-read : (o n : ℕ) → o + n ≤ length (judgement call .sections) → part (left .report) (sectionsPlace b + o) n ≡ part (judgement call .sections) o n
   sections-read o n h =
-      let long = sections-length in
+      let long = sections-length call (clear .whole) in
       read-there (sectionsPlace b + o) n (omega arith)
-      ∙ part-back front (judgement call .sections) (sectionsPlace b) o n front-length
+      ∙ part-back front (judgement call .sections) (sectionsPlace b) o n front-long
 
   pub message-lines-read : messageLines left ≡ judgement call .sections
   message-lines-read =
-      let long = sections-length in
+      let long = sections-length call (clear .whole) in
       let rest : reportLength b m - sectionsPlace b ≡ countWidth * b + messageLineWidth * m = omega arith in
       ap (λ (k : ℕ). part (left .report) (sectionsPlace k) (reportLength b m - sectionsPlace k)) count-read
       ∙ ap (λ (n : ℕ). part (left .report) (sectionsPlace b) n) rest

@@ -27,12 +27,12 @@ use Rattle.refusing.specs.Refusals.{Call, refusal}
 use Rattle.judging.specs.Outcome.{outcome}
 use Rattle.promises.specs.Reading.{Payment, paymentOf, accepted, recorded, centsTo, centsFrom}
 use Rattle.promises.specs.Runs.{File, callOn, stateAfter, run, withMessageTag, messageKeys, RunsAsPromised, EmptyRegisterFills}
-use Rattle.promises.proofs.Bulks.{AllWide, Shaped, AllShaped}
+use Rattle.sheet.proofs.Bulks.{MessagesWide, BulkWide, BulksWide}
 use Rattle.refusing.proofs.Clear.{Clear, clear-of}
 use Rattle.judging.proofs.Answers.{outcome-judged, outcome-refused}
 use Rattle.promises.proofs.Entered.{key-parts, own-key-parts, file-added}
 use Rattle.promises.proofs.Fit.{Sends, Accepted, Fit, has-row, accepted-facts, sends-facts, verdict-facts, after-accepted, after-rejected, pays-found, fit-less, message-fit, messages-fit, bulk-fit, bulks-fit}
-use Rattle.promises.proofs.Lines.{shaped, bulk-number, message-number}
+use Rattle.judging.proofs.Widths.{all-wide, bulk-number, message-number}
 use Rattle.promises.proofs.Said.{paid, paidBy, said-judged, said-refused}
 use Rattle.promises.proofs.Tracked.{Fresh, Tracked, tracked-none, tracked-then, tag-append, not-listed, none-twice, all-stand-from}
 
@@ -145,9 +145,9 @@ module _ (terms : Terms) (table : List ℕ) where
         by-test true = refl
         by-test false = refl
 
-    messages-tracked : (ms : List (List ℕ)) (st : State) (e p : ℕ) → AllWide kind ms → Fit terms table st (length ms + e) (length ms + p)
+    messages-tracked : (ms : List (List ℕ)) (st : State) (e p : ℕ) → MessagesWide kind ms → Fit terms table st (length ms + e) (length ms + p)
         → Tracked terms table st (judgeMessages terms table header fallen ms st .after) (paid terms table header fallen ms st)
-    unfolding judgeMessages AllWide paid
+    unfolding judgeMessages MessagesWide paid
     messages-tracked [] st e p all f = tracked-none terms table st
     messages-tracked (m ∷ ms) st e p all f =
         let more : Fit terms table st (suc (length ms + e)) (suc (length ms + p)) = fit-less terms table st (suc (length ms) + e) (suc (length ms) + p) (suc (length ms + e)) (suc (length ms + p)) f (omega arith) (omega arith) in
@@ -168,7 +168,7 @@ module _ (terms : Terms) (table : List ℕ) where
     abbrev entered : State
     entered = record { register = add (after .register) (key (senderOf (b .header)) (bulkIdentifierOf (b .header)) bulkTag); positions = after .positions }
 
-    bulk-tracked : (e p : ℕ) → Shaped b → Fit terms table st (suc (length (b .messages) + e)) (length (b .messages) + p) → Tracked terms table st (afterBulk terms table b st) paidIn
+    bulk-tracked : (e p : ℕ) → BulkWide b → Fit terms table st (suc (length (b .messages) + e)) (length (b .messages) + p) → Tracked terms table st (afterBulk terms table b st) paidIn
     unfolding afterBulk
     bulk-tracked e p shaped f = by-count (eqb (messagesJudged terms table b st .totals .acceptedNumber) 0)
       where
@@ -185,9 +185,9 @@ module _ (terms : Terms) (table : List ℕ) where
             (tracked-then terms table st after entered paidIn [] messages
             (bulk-recorded after (b .header) e p (shaped .header) (messages-fit terms table (b .header) (falls terms table b st) (sends-facts terms table b st) (b .messages) st (suc e) p enough)))
 
-  bulks-tracked : (bs : List Bulk) (st : State) (e p : ℕ) → AllShaped bs → Fit terms table st (length bs + countMessages bs + e) (countMessages bs + p)
+  bulks-tracked : (bs : List Bulk) (st : State) (e p : ℕ) → BulksWide bs → Fit terms table st (length bs + countMessages bs + e) (countMessages bs + p)
       → Tracked terms table st (judgeBulks terms table bs st .after) (paidBy terms table bs st)
-  unfolding judgeBulks AllShaped countMessages paidBy
+  unfolding judgeBulks BulksWide countMessages paidBy
   bulks-tracked [] st e p shaped f = tracked-none terms table st
   bulks-tracked (b ∷ bs) st e p shaped f =
       let n = length (b .messages) in
@@ -221,8 +221,8 @@ module _ (terms : Terms) (table : List ℕ) where
       where
         enough : Clear call → Fit terms table st (length bulks + countMessages bulks + 0) (countMessages bulks + 0)
         enough clear =
-            let n = bulk-number call clear in
-            let m = message-number call clear in
+            let n = bulk-number call (clear .whole) in
+            let m = message-number call (clear .whole) in
             let room = clear .room in
             record {
               formed = clear .formed;
@@ -238,7 +238,7 @@ module _ (terms : Terms) (table : List ℕ) where
             let fit = bulks-fit terms table bulks st 0 0 (enough clear) in
             rw (said-judged call e, outcome-judged call e)
             (record {
-              tracked = bulks-tracked bulks st 0 0 (shaped call clear) (enough clear);
+              tracked = bulks-tracked bulks st 0 0 (all-wide call (clear .whole)) (enough clear);
               bytes = fit .bytes;
               long = fit .places ∙ sym (clear .places);
             })

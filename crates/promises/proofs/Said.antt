@@ -23,11 +23,12 @@ use Rattle.judging.specs.Judgement.{falls, messagesJudged, sectionOf, afterBulk
 use Rattle.refusing.specs.Refusals.{Call, refusal}
 use Rattle.judging.specs.Outcome.{judgement, judgedOf, outcome}
 use Rattle.promises.specs.Reading.{Payment, paymentOf, messageLineFrom, saysAccepted, acceptedOf, acceptedFrom, accepted}
-use Rattle.promises.proofs.Bulks.{AllWide, Shaped, AllShaped}
+use Rattle.sheet.proofs.Bulks.{MessagesWide, BulkWide, BulksWide}
 use Rattle.refusing.proofs.Clear.{clear-of}
 use Rattle.judging.proofs.Answers.{outcome-judged, outcome-refused}
-use Rattle.promises.proofs.Joined.{line-wide, section-wide}
-use Rattle.promises.proofs.Lines.{shaped, sections-read}
+use Rattle.messages.proofs.Widths.{line-wide}
+use Rattle.judging.proofs.Widths.{section-wide, all-wide}
+use Rattle.promises.proofs.Lines.{sections-read}
 
 -- the text of n bytes stands in the report from place at on
 abbrev pub Stands : List ℕ → ℕ → List ℕ → Type 0
@@ -92,9 +93,9 @@ module _ (terms : Terms) (table : List ℕ) where
   paidBy [] before = []
   paidBy (b ∷ bs) before = paid (b .header) (falls terms table b before) (b .messages) before ++ paidBy bs (afterBulk terms table b before)
 
-  pub said-messages : (report : List ℕ) (at : ℕ) (header : List ℕ) (fallen : Bool) (kind : ℕ) (ms : List (List ℕ)) (before : State) → AllWide kind ms
+  pub said-messages : (report : List ℕ) (at : ℕ) (header : List ℕ) (fallen : Bool) (kind : ℕ) (ms : List (List ℕ)) (before : State) → MessagesWide kind ms
       → Stands report at (judgeMessages terms table header fallen ms before .lines) → acceptedOf report header ms at ≡ paid header fallen ms before
-  unfolding acceptedOf paid judgeMessages AllWide
+  unfolding acceptedOf paid judgeMessages MessagesWide
   said-messages report at header fallen kind [] before wide there = refl
   said-messages report at header fallen kind (m ∷ ms) before wide there =
       let line = lineOf terms table header fallen m before in
@@ -107,7 +108,7 @@ module _ (terms : Terms) (table : List ℕ) where
       ap₂ (λ (t : Bool) (ps : List Payment). cond t (paymentOf header m ∷ ps) ps) first later
 
   -- the lines of a bulk's section, and the sections after it, where all of them stand
-  module _ (report : List ℕ) (at : ℕ) (b : Bulk) (bs : List Bulk) (before : State) (shaped : Shaped b)
+  module _ (report : List ℕ) (at : ℕ) (b : Bulk) (bs : List Bulk) (before : State) (shaped : BulkWide b)
       (there : Stands report at (judgeBulks terms table (b ∷ bs) before .sections)) where
     abbrev section : List ℕ
     section = sectionOf terms table b before
@@ -135,9 +136,9 @@ module _ (terms : Terms) (table : List ℕ) where
     pub said-bulk : acceptedOf report (b .header) (b .messages) (linesAt at) ≡ paid (b .header) (falls terms table b before) (b .messages) before
     said-bulk = said-messages report (linesAt at) (b .header) (falls terms table b before) (kindOf (b .header)) (b .messages) before (shaped .messages) lines-there
 
-  said-bulks : (report : List ℕ) (at : ℕ) (bs : List Bulk) (before : State) → AllShaped bs → Stands report at (judgeBulks terms table bs before .sections)
+  said-bulks : (report : List ℕ) (at : ℕ) (bs : List Bulk) (before : State) → BulksWide bs → Stands report at (judgeBulks terms table bs before .sections)
       → acceptedFrom report bs at ≡ paidBy bs before
-  unfolding acceptedFrom paidBy AllShaped
+  unfolding acceptedFrom paidBy BulksWide
   said-bulks report at [] before shaped there = refl
   said-bulks report at (b ∷ bs) before shaped there =
       ap₂ (λ (x y : List Payment). x ++ y)
@@ -152,7 +153,7 @@ said-judged call e =
     let clear = clear-of call e in
     let before : State = record { register = call .register; positions = call .positions } in
     rw (outcome-judged call e)
-    (said-bulks (call .terms) (call .table) (judgedOf call (judgement call) .report) (sectionsPlace (bulkCount (call .sheet))) (bulksOf (call .sheet)) before (shaped call clear)
+    (said-bulks (call .terms) (call .table) (judgedOf call (judgement call) .report) (sectionsPlace (bulkCount (call .sheet))) (bulksOf (call .sheet)) before (all-wide call (clear .whole))
     (sections-read call clear))
 
 pub said-refused : (call : Call) → (refusal call ≡ 0 → ⊥) → accepted (call .sheet) (outcome call) ≡ []

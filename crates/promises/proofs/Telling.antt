@@ -27,9 +27,10 @@ use Rattle.judging.proofs.Answers.{number-is, outcome-judged, outcome-refused}
 use Rattle.judging.proofs.Demands.{numbers-add-up, cents-add-up, bulk-shows}
 use Rattle.promises.specs.Reading.{bulkLineFrom, messageLineFrom, saysFallen}
 use Rattle.promises.specs.Demands.{RefusesAsWritten, centsPaid, MessageTells, MessagesTell, BulkTells, BulksTell, EveryLineTells}
-use Rattle.promises.proofs.Bulks.{AllWide, Shaped, AllShaped}
-use Rattle.promises.proofs.Joined.{line-wide, bulk-line-wide}
-use Rattle.promises.proofs.Lines.{shaped, message-number, count-read, lines-read, sections-read}
+use Rattle.sheet.proofs.Bulks.{MessagesWide, BulkWide, BulksWide}
+use Rattle.messages.proofs.Widths.{line-wide}
+use Rattle.judging.proofs.Widths.{bulk-line-wide, all-wide, message-number}
+use Rattle.promises.proofs.Lines.{count-read, lines-read, sections-read}
 use Rattle.promises.proofs.Entered.{come, message-register, bulk-register}
 use Rattle.promises.proofs.Said.{Stands, stands-front, stands-back, text-there, line-read, says, section-there, lines-there, rest-there, said-bulk}
 
@@ -78,9 +79,9 @@ module _ (terms : Terms) (table report : List ℕ) where
         faults = λ k. ap (λ (n : ℕ). shown n k) (read .faultsIs) ∙ message-shows terms table header m before k;
       }
 
-  messages-tell : (at : ℕ) (header : List ℕ) (fallen : Bool) (kind : ℕ) (ms : List (List ℕ)) (before : State) → AllWide kind ms
+  messages-tell : (at : ℕ) (header : List ℕ) (fallen : Bool) (kind : ℕ) (ms : List (List ℕ)) (before : State) → MessagesWide kind ms
       → Stands report at (judgeMessages terms table header fallen ms before .lines) → MessagesTell terms table report header fallen ms (before .register) at
-  unfolding MessagesTell judgeMessages AllWide
+  unfolding MessagesTell judgeMessages MessagesWide
   messages-tell at header fallen kind [] before wide there = tt
   messages-tell at header fallen kind (m ∷ ms) before wide there =
       let text = lineOf terms table header fallen m before in
@@ -104,7 +105,7 @@ module _ (terms : Terms) (table report : List ℕ) where
       by-tests false false true = lit< tt
       by-tests false false false = lit< tt
 
-  module _ (b : Bulk) (bs : List Bulk) (before : State) (at section : ℕ) (is : Shaped b) (few : length (b .messages) ≤ mostMessages)
+  module _ (b : Bulk) (bs : List Bulk) (before : State) (at section : ℕ) (is : BulkWide b) (few : length (b .messages) ≤ mostMessages)
       (summed : sumOf (b .messages) ≤ length (b .messages) * 2 ^ 64) (there : Stands report at (bulkLineOf terms table b before))
       (there' : Stands report section (judgeBulks terms table (b ∷ bs) before .sections)) where
     abbrev t : Totals
@@ -163,10 +164,10 @@ module _ (terms : Terms) (table report : List ℕ) where
 
   -- ---- all bulks
 
-  bulks-tell : (bs : List Bulk) (before : State) (line at : ℕ) → AllShaped bs → countMessages bs ≤ mostMessages → Small bs
+  bulks-tell : (bs : List Bulk) (before : State) (line at : ℕ) → BulksWide bs → countMessages bs ≤ mostMessages → Small bs
       → Stands report line (judgeBulks terms table bs before .lines) → Stands report at (judgeBulks terms table bs before .sections)
       → BulksTell terms table report bs (before .register) line at
-  unfolding BulksTell judgeBulks AllShaped countMessages Small
+  unfolding BulksTell judgeBulks BulksWide countMessages Small
   bulks-tell [] before line at is few small there there' = tt
   bulks-tell (b ∷ bs) before line at is few small there there' =
       let next = afterBulk terms table b before in
@@ -191,7 +192,7 @@ every-line-tells call bytes e =
       count = count-read call clear;
       bulks =
           bulks-tell (call .terms) (call .table) (judgedOf call (judgement call) .report) (bulksOf (call .sheet)) (record { register = call .register; positions = call .positions })
-          firstLine (sectionsPlace (bulkCount (call .sheet))) (shaped call clear) (rw (message-number call clear) few)
+          firstLine (sectionsPlace (bulkCount (call .sheet))) (all-wide call (clear .whole)) (rw (message-number call (clear .whole)) few)
           (small-bulks (call .sheet) (bulkCount (call .sheet)) countWidth (firstSection (call .sheet)) (bytes .sheet))
           (lines-read call clear) (sections-read call clear);
     })

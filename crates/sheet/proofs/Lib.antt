@@ -1,4 +1,6 @@
+pub mod Bulks
 pub mod Cases
 pub mod Computing
 pub mod Fields
 pub mod Laws
+pub mod Taken

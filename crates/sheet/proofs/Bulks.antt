@@ -1,15 +1,16 @@
 -- Bulks read from a sheet: those of two sheets that agree where they are read, the first of them and the others, and how wide they
--- are. Assumes nothing.
+-- are. What the promises and the program say of whole files rests on these. Assumes nothing.
 use mathlib.Core.Path.{_≡_, refl, sym, ap, ap₂, _∙_}
 use mathlib.Core.List.{List, [], _∷_, _++_}
 use Prim.Native.Nat.{ℕ, zero, suc, _+_, _-_, _*_, _≤_}
-use native.Mathlib.Nat.{add-zero, zero-add, suc-add, add-assoc}
+use native.Mathlib.Nat.{add-zero, zero-add, suc-add, add-assoc, mul-le-mul-right}
 use native.Mathlib.Omega.{arith}
 use lib.ListN.{length}
 use Rattle.wire.specs.Field.{part, numberOf}
 use Rattle.wire.proofs.Texts.{part-length}
-use Rattle.sheet.specs.Sheet.{headerWidth, messageWidth, kindOf, countWidth, countAt, recordsAt, headerAt, Bulk, widthAt, afterMessages, bulkAt, bulksFrom, endFrom, messagesFrom}
+use Rattle.sheet.specs.Sheet.{headerWidth, fieldsWidth, messageWidth, kindOf, countWidth, countAt, recordsAt, headerAt, Bulk, widthAt, afterMessages, bulkAt, bulksFrom, endFrom, messagesFrom}
+use Rattle.sheet.proofs.Fields.{fields-fit}
 use Rattle.sheet.proofs.Laws.{end-forward}
 
 -- ---- two sheets that agree
 
@@ -133,30 +134,41 @@ module _ (s : List ℕ) where
 -- ---- how wide they are
 
 -- messages of a kind
-unfoldable pub AllWide : ℕ → List (List ℕ) → Type 0
-AllWide kind [] = Unit {0}
-AllWide kind (m ∷ ms) = (length m ≡ messageWidth kind) × AllWide kind ms
+unfoldable pub MessagesWide : ℕ → List (List ℕ) → Type 0
+MessagesWide kind [] = Unit {0}
+MessagesWide kind (m ∷ ms) = (length m ≡ messageWidth kind) × MessagesWide kind ms
 
-pub record Shaped (b : Bulk) : Type 0 where
+pub record BulkWide (b : Bulk) : Type 0 where
   pub header : length (b .header) ≡ headerWidth
-  pub messages : AllWide (kindOf (b .header)) (b .messages)
+  pub messages : MessagesWide (kindOf (b .header)) (b .messages)
 
-unfoldable pub AllShaped : List Bulk → Type 0
-AllShaped [] = Unit {0}
-AllShaped (b ∷ bs) = Shaped b × AllShaped bs
+unfoldable pub BulksWide : List Bulk → Type 0
+BulksWide [] = Unit {0}
+BulksWide (b ∷ bs) = BulkWide b × BulksWide bs
 
 module _ (s : List ℕ) where
-  records-wide : (kind n at : ℕ) → at + messageWidth kind * n ≤ length s → AllWide kind (recordsAt (messageWidth kind) s n at)
-  unfolding recordsAt AllWide
+  records-wide : (kind n at : ℕ) → at + messageWidth kind * n ≤ length s → MessagesWide kind (recordsAt (messageWidth kind) s n at)
+  unfolding recordsAt MessagesWide
   records-wide kind zero at h = tt
   records-wide kind (suc n) at h = (part-length s at (messageWidth kind) (omega arith), records-wide kind n (at + messageWidth kind) (omega arith))
 
-  pub bulks-shaped : (n head at : ℕ) → head + headerWidth * n ≤ length s → endFrom s n head at ≤ length s → AllShaped (bulksFrom s n head at)
-  unfolding bulksFrom endFrom AllShaped
-  bulks-shaped zero head at headed h = tt
-  bulks-shaped (suc n) head at headed h =
+  pub bulk-wide : (head at : ℕ) → head + headerWidth ≤ length s → afterMessages s head at ≤ length s → BulkWide (bulkAt s head at)
+  bulk-wide head at headed inside =
+      record { header = part-length s head headerWidth headed; messages = records-wide (kindOf (headerAt s head)) (countAt s at) (at + countWidth) inside }
+
+  pub bulks-wide : (n head at : ℕ) → head + headerWidth * n ≤ length s → endFrom s n head at ≤ length s → BulksWide (bulksFrom s n head at)
+  unfolding bulksFrom endFrom BulksWide
+  bulks-wide zero head at headed h = tt
+  bulks-wide (suc n) head at headed h =
       let over = afterMessages s head at in
-      let inside : over ≤ length s = omega (arith, end-forward s n (head + headerWidth) over) in (
-        record { header = part-length s head headerWidth (omega arith); messages = records-wide (kindOf (headerAt s head)) (countAt s at) (at + countWidth) inside },
-        bulks-shaped n (head + headerWidth) over (omega arith) h,
-      )
+      let inside : over ≤ length s = omega (arith, end-forward s n (head + headerWidth) over) in
+      (bulk-wide head at (omega arith) inside, bulks-wide n (head + headerWidth) over (omega arith) h)
+
+  -- a message takes all its fields, and maybe more
+  pub sheet-length : (n head at : ℕ) → at + countWidth * n + fieldsWidth * messagesFrom s n head at ≤ endFrom s n head at
+  unfolding endFrom messagesFrom
+  sheet-length zero head at = omega arith
+  sheet-length (suc n) head at =
+      let rest = sheet-length n (head + headerWidth) (afterMessages s head at) in
+      let wide = mul-le-mul-right {m = fieldsWidth} {n = widthAt s head} (countAt s at) (fields-fit (kindOf (headerAt s head))) in
+      omega arith

@@ -10,15 +10,15 @@ use lib.Seq.{take-all}
 use Rattle.wire.specs.Field.{part, numberOf, bytesOf}
 use Rattle.wire.proofs.Numbers.{bytes-length, written-read}
 use Rattle.wire.proofs.Texts.{part-length, part-part, part-front, part-back}
 use Rattle.sheet.specs.Sheet.{countWidth, headerWidth, headerAt, bulkCount, messageCount, bulksFrom, bulksOf, messagesFrom, endFrom, whole}
 use Rattle.sheet.proofs.Laws.{whole-ended}
-use Rattle.promises.proofs.Bulks.{bulks-agree}
+use Rattle.sheet.proofs.Bulks.{bulks-agree}
 
 -- n headers from place head on, and the k bytes of their sections from place at on
 abbrev pub taken : List ℕ → ℕ → ℕ → ℕ → ℕ → List ℕ
 taken s n head at k = bytesOf countWidth n ++ part s head (headerWidth * n) ++ part s at k
 
-pub record Holds (t s : List ℕ) (n head at : ℕ) : Type 0 where
+pub record HoldsBulks (t s : List ℕ) (n head at : ℕ) : Type 0 where
   pub count : bulkCount t ≡ n
   pub bulks : bulksOf t ≡ bulksFrom s n head at
   pub messages : messageCount t ≡ messagesFrom s n head at
@@ -55,7 +55,7 @@ module _ (s : List ℕ) (n head at k : ℕ) (few : n < 256 ^ countWidth) (headed
   same-bytes : (o m : ℕ) → o + m ≤ k → part s (at + o) m ≡ part t (countWidth + headerWidth * n + o) m
   same-bytes o m h = sym (part-back front (part s at k) (countWidth + headerWidth * n) o m front-length ∙ part-part s at k o m h)
 
-  pub taken-holds : Holds t s n head at
+  pub taken-holds : HoldsBulks t s n head at
   taken-holds =
       let agree = bulks-agree s t n head countWidth at (countWidth + headerWidth * n) k same-headers same-bytes (omega arith) in
       let total : length t ≡ countWidth + headerWidth * n + k = length-append front (part s at k) ∙ (rw (front-length, part-length s at k inside)) in
