@@ -62,11 +62,11 @@ pub fn bulk_faults(
 {
     let sender = header.sender(sheet);
     let identifier = header.identifier(sheet);
+    let repeated = rules::repeated(register, sender, identifier, register::BULK);
     let marks_wrong = rules::marks_wrong(header.marks);
     let no_participant = rules::no_participant(table, row);
     let date_wrong = rules::date_wrong(terms, header.date);
     let badly_formed = wording::badly_formed(identifier);
-    let repeated = rules::repeated(register, sender, identifier, register::BULK);
     let empty = rules::empty(number);
     let number_wrong = rules::number_wrong(header.number, number);
     let sum_wrong = rules::sum_wrong(header.sum, sum);

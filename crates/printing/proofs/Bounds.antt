@@ -30,7 +30,7 @@ use Rattle.printing.proofs.Reports.{judgedReport, report-short}
 -- ---- the number of a refusal
 
 outcome-number : (call : Call) → outcome call .number < 100
-outcome-number call = rw (number-is call) (refusal-small call)
+outcome-number call = rw (number-is call) (let small = refusal-small call in omega arith)
 
 -- ---- the text of an outcome, of bytes
 

@@ -1,39 +1,17 @@
--- Each refusal has a number of its own, from 1 to 99, and stands in the order: all that is said of them one by one. Assumes nothing.
+-- Each refusal stands in the order, which is all that is said of them one by one; so it has a number of its own, from 1 to 98, since
+-- the program says 99 itself. Assumes nothing.
 use mathlib.Core.Path.{_≡_, refl, sym, ap, _∙_}
-use mathlib.Core.Bool.{Bool, true, false, cond}
+use mathlib.Core.Bool.{Bool, true, false, cond, not, _&&_, and-eq-true-iff}
 use mathlib.Core.List.{List, [], _∷_}
 use Prim.Native.Nat.{ℕ, _<_}
-use lib.Dec.{eqb, lit<}
+use native.Mathlib.Omega.{arith}
+use lib.Dec.{eqb, ltb, lit<}
+use lib.ListN.{length}
+use borrow.Author.Tests.{ltb-true, not-true}
 use Rattle.refusing.specs.Refusals.{Call, refusalNumber, holds, refusals, firstHolding, refusal}
-use Rattle.refusing.specs.Checking.{from}
+use Rattle.refusing.specs.Checking.{fromIn, from}
 use Rattle.refusing.specs.declared.Refusal.{Refusal}
 use Rattle.refusing.specs.declared.Refusal.the-variants.{Date, Table, Positions, Register, Sheet, Size, Kind, Order, Room, Limit, Space}
-
-pub some-number : (r : Refusal) → eqb (refusalNumber r) 0 ≡ false
-some-number Date = refl
-some-number Table = refl
-some-number Positions = refl
-some-number Register = refl
-some-number Sheet = refl
-some-number Size = refl
-some-number Kind = refl
-some-number Order = refl
-some-number Room = refl
-some-number Limit = refl
-some-number Space = refl
-
-pub small-number : (r : Refusal) → refusalNumber r < 100
-small-number Date = lit< tt
-small-number Table = lit< tt
-small-number Positions = lit< tt
-small-number Register = lit< tt
-small-number Sheet = lit< tt
-small-number Size = lit< tt
-small-number Kind = lit< tt
-small-number Order = lit< tt
-small-number Room = lit< tt
-small-number Limit = lit< tt
-small-number Space = lit< tt
 
 pub in-order : (r : Refusal) → (later : List Refusal) × (from r ≡ r ∷ later)
 in-order Date = (_, refl)
@@ -48,28 +26,52 @@ in-order Room = (_, refl)
 in-order Limit = (_, refl)
 in-order Space = (_, refl)
 
--- the refusal of a number, among those listed
-numbered : List Refusal → ℕ → Refusal
-numbered [] n = Date
-numbered (r ∷ rs) n = cond (eqb (refusalNumber r) n) r (numbered rs n)
+-- ---- what a test says of the whole list it says of each
 
-number-back : (r : Refusal) → numbered refusals (refusalNumber r) ≡ r
-unfolding numbered
-number-back Date = refl
-number-back Table = refl
-number-back Positions = refl
-number-back Register = refl
-number-back Sheet = refl
-number-back Size = refl
-number-back Kind = refl
-number-back Order = refl
-number-back Room = refl
-number-back Limit = refl
-number-back Space = refl
+every : (Refusal → Bool) → List Refusal → Bool
+every p [] = true
+every p (r ∷ rs) = p r && every p rs
+
+first : List Refusal → Refusal
+first [] = Date
+first (r ∷ rs) = r
+
+each : (p : Refusal → Bool) (rs : List Refusal) (r : Refusal) (later : List Refusal) → fromIn rs r ≡ r ∷ later → every p rs ≡ true → p r ≡ true
+unfolding every first
+each p [] r later e all = absurd (let h = ap length e in omega arith)
+each p (x ∷ xs) r later e all =
+    let parts = and-eq-true-iff (p x) (every p xs) .0 all in
+    by-test (eqb (refusalNumber x) (refusalNumber r)) (parts .0) (λ f. each p xs r later f (parts .1)) e
+  where
+    by-test : (t : Bool) → p x ≡ true → (fromIn xs r ≡ r ∷ later → p r ≡ true) → cond t (x ∷ xs) (fromIn xs r) ≡ r ∷ later → p r ≡ true
+    by-test true here rest e = ap p (sym (ap first e)) ∙ here
+    by-test false here rest e = rest e
+
+-- ---- the numbers
+
+abbrev some : Refusal → Bool
+some r = not (eqb (refusalNumber r) 0)
+
+abbrev small : Refusal → Bool
+small r = ltb (refusalNumber r) 99
+
+pub some-number : (r : Refusal) → eqb (refusalNumber r) 0 ≡ false
+unfolding every
+some-number r = not-true _ (each some refusals r (in-order r .0) (in-order r .1) refl)
+
+pub small-number : (r : Refusal) → refusalNumber r < 99
+unfolding every
+small-number r = ltb-true (refusalNumber r) 99 (each small refusals r (in-order r .0) (in-order r .1) refl)
+
+-- the refusals from one on are found by its number
+same-from : (rs : List Refusal) (r s : Refusal) → refusalNumber r ≡ refusalNumber s → fromIn rs r ≡ fromIn rs s
+same-from [] r s e = refl
+same-from (x ∷ xs) r s e = rw (e, same-from xs r s e)
 
 -- so no two have the same
 pub number-tells : (r s : Refusal) → refusalNumber r ≡ refusalNumber s → r ≡ s
-number-tells r s e = sym (number-back r) ∙ ap (numbered refusals) e ∙ number-back s
+unfolding first
+number-tells r s e = ap first (sym (in-order r .1) ∙ same-from refusals r s e ∙ in-order s .1)
 
 -- ---- the answer's number
 
@@ -83,12 +85,12 @@ first-named (r ∷ rs) call e = by-test (first-named rs call) (holds r call) e
     by-test later true e = (r, refl)
     by-test later false e = later e
 
-first-small : (rs : List Refusal) (call : Call) → firstHolding rs call < 100
+first-small : (rs : List Refusal) (call : Call) → firstHolding rs call < 99
 unfolding firstHolding
 first-small [] call = lit< tt
 first-small (r ∷ rs) call = by-test (holds r call) (first-small rs call)
   where
-    by-test : (t : Bool) → firstHolding rs call < 100 → cond t (refusalNumber r) (firstHolding rs call) < 100
+    by-test : (t : Bool) → firstHolding rs call < 99 → cond t (refusalNumber r) (firstHolding rs call) < 99
     by-test true h = small-number r
     by-test false h = h
 
@@ -97,6 +99,6 @@ pub refusal-named : (call : Call) → (refusal call ≡ 0 → ⊥) → (r : Refu
 unfolding refusal
 refusal-named call e = first-named refusals call e
 
-pub refusal-small : (call : Call) → refusal call < 100
+pub refusal-small : (call : Call) → refusal call < 99
 unfolding refusal
 refusal-small call = first-small refusals call

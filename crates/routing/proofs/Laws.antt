@@ -29,12 +29,9 @@ use Rattle.routing.specs.Lookup.{counts, bears, rowOf, xxx, headOffice, 
 kind-read : (table : List ℕ) (i : ℕ) → kindAt table i ≡ getD table (rowAt i + kindPlace) 0
 kind-read table i = one-read table (rowAt i + kindPlace)
 
--- past the last whole row there is no kind
-pub kind-past : (table : List ℕ) (i : ℕ) → rows table ≤ i → kindAt table i ≡ 0
+-- past what is left behind the last whole row there is no kind
+pub kind-past : (table : List ℕ) (i : ℕ) → rows table < i → kindAt table i ≡ 0
 kind-past table i h = kind-read table i ∙ List·getD-eq-default table 0 (omega arith)
-
-pub kind-there : (table : List ℕ) (i : ℕ) → getD table (rowAt i + kindPlace) 0 ≡ kindAt table i
-kind-there table i = sym (kind-read table i)
 
 -- a well formed table is its count, and as many whole rows
 form-told : (table : List ℕ) → wellFormed table ≡ true → Formed table

@@ -70,14 +70,14 @@ fn known_kind(kind: u8) -> bool
     (kind == NOT_REACHABLE) | (kind == PARTICIPANT) | (kind == HOLDER) | (kind == THROUGH_STEP2)
 }
 
-// 0 where the table has no such row.
+// 0 where the table has no such row; of a row that is cut off, what is left of it.
 fn kind_at(table: &[u8], i: usize) -> u8
     ensures { λ r. ⌜ r ≡ kindAt (now (table .entry)) i ⌝ }
 {
-    if rows(table) <= i {
+    if rows(table) < i {
         return 0;
     }
-    table[COUNT_WIDTH + ROW_WIDTH * i + KIND_PLACE]
+    wire::u8_at(table, COUNT_WIDTH + ROW_WIDTH * i + KIND_PLACE)
 }
 
 // Whether the table has the form that its layout asks; if not, that is refusal 2.

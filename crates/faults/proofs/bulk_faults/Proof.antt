@@ -15,31 +15,31 @@ use Rattle.faults.proofs.bulk_faults.Tie as tie
 
 repeated-requires : tie.Need-repeated-requires
 repeated-requires c κs =
-    let read = c .before .before .before .before in
-    let start = read .before .before .before .before .before in
-    bulk-parts (start .args .terms) (start .args .sheet .now) (start .args .table .now) (start .args .header) (start .args .row) _ _ (start .pre) (read .before .sender .ensures) (read .identifier .ensures)
+    let start = c .before .before .before .before .before in
+    bulk-parts (start .args .terms) (start .args .sheet .now) (start .args .table .now) (start .args .header) (start .args .row) _ _ (start .pre) (c .before .sender .ensures) (c .identifier .ensures)
 
 returns : tie.Need-returns
 unfolding bulkFaults
 returns c =
     -- after each bit was set, from the last to the first
-    let at6 = c .before in
+    let at7 = c in
+    let at6 = at7 .before in
     let at5 = at6 .before in
     let at4 = at5 .before in
     let at3 = at4 .before in
     let at2 = at3 .before in
     let at1 = at2 .before in
     let at0 = at1 .before in
-    -- after each fact was asked
+    -- after each fact was asked; that of a repeat is the first
     let f7 = at0 .before in
     let f6 = f7 .before in
     let f5 = f6 .before in
-    let f4 = f5 .before in
-    let f3 = f4 .before in
+    let f3 = f5 .before in
     let f2 = f3 .before in
     let f1 = f2 .before in
     let f0 = f1 .before in
-    let read = f0 .before in
+    let f4 = f0 .before in
+    let read = f4 .before in
     let start = read .before .before .before .before .before in
     let a = start .args in
     let asked = start .pre in
@@ -52,14 +52,15 @@ returns c =
     let m4 = flag-next _ _ _ _ _ m3 (at4 .flag5 .ensures .0) (f4 .repeated .ensures ∙ (λ i. repeated (a .register .now) (sender i) (identifier i) bulkTag)) in
     let m5 = flag-next _ _ _ _ _ m4 (at5 .flag6 .ensures .0) (f5 .empty .ensures) in
     let m6 = flag-next _ _ _ _ _ m5 (at6 .flag7 .ensures .0) (f6 .number-wrong .ensures ∙ (λ i. numberWrong (asked .read .number i) (a .number))) in
-    flag-next _ _ _ _ _ m6 (c .flag8 .ensures .0) (f7 .sum-wrong .ensures ∙ (λ i. sumWrong (asked .read .sum i) (centsOf (a .sum))))
+    flag-next _ _ _ _ _ m6 (at7 .flag8 .ensures .0) (f7 .sum-wrong .ensures ∙ (λ i. sumWrong (asked .read .sum i) (centsOf (a .sum))))
 
 pub bulk-faults-spec : {M : Type 1} → statement M
 bulk-faults-spec =
     tie.close
-    (tie.spec (λ c κs. search needs) (λ c κs. search needs)
+    (tie.spec (λ c κs. search needs)
+    (λ c κs. search needs) repeated-requires
     (λ c κs. search needs) (λ c κs. search needs) (λ c κs. search needs) (λ c κs. search needs)
-    repeated-requires (λ c κs. search needs) (λ c κs. search needs) (λ c κs. search needs)
     (λ c κs. search needs) (λ c κs. search needs) (λ c κs. search needs) (λ c κs. search needs)
     (λ c κs. search needs) (λ c κs. search needs) (λ c κs. search needs) (λ c κs. search needs)
+    (λ c κs. search needs) (λ c κs. search needs) (λ c κs. search needs)
     returns)

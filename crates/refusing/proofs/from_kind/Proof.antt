@@ -4,7 +4,6 @@ use mathlib.Core.Path.{refl, _∙_}
 use mathlib.Core.Bool.{true, false}
 use Rattle.sheet.specs.Sheet.{headersOf, kindsKnown}
 use Rattle.refusing.specs.Refusals.{holds}
-use Rattle.refusing.specs.Checking.{callOf}
 use Rattle.refusing.specs.declared.Refusal.the-variants.{Kind, Order}
 use Rattle.refusing.proofs.Checking.{stops, goes-on, not-good, header-room}
 use borrow.Author.Needs.{needs}
@@ -19,16 +18,14 @@ unfolding holds
 returns c =
     let a = c .before .before .before .before .before .before .before .args in
     let m = c .before .before .before .before .before .before .before .pre .measured in
-    let call = callOf (a .terms) (a .sheet .now) (a .table .now) (a .register .now) (a .positions .now) (a .report .now) in
-    stops call Kind _ refl (not-good _ true _ (c .before .kinds-known .ensures ∙ (λ i. kindsKnown (headersOf (a .sheet .now) (m .bulkCount i)))) (c .if1 .taken))
+    stops _ Kind _ refl (not-good _ true _ (c .before .kinds-known .ensures ∙ (λ i. kindsKnown (headersOf (a .sheet .now) (m .bulkCount i)))) (c .if1 .taken))
 
 returns-2 : tie.Need-returns-2
 unfolding holds
 returns-2 c =
     let a = c .before .before .before .before .before .before .before .before .args in
     let m = c .before .before .before .before .before .before .before .before .pre .measured in
-    let call = callOf (a .terms) (a .sheet .now) (a .table .now) (a .register .now) (a .positions .now) (a .report .now) in
-    goes-on call Kind Order refl (not-good _ false _ (c .before .before .kinds-known .ensures ∙ (λ i. kindsKnown (headersOf (a .sheet .now) (m .bulkCount i)))) (c .before .if1 .left)) (c .from-order .result) (c .from-order .ensures)
+    goes-on _ Kind Order refl (not-good _ false _ (c .before .before .kinds-known .ensures ∙ (λ i. kindsKnown (headersOf (a .sheet .now) (m .bulkCount i)))) (c .before .if1 .left)) (c .from-order .result) (c .from-order .ensures)
 
 pub from-kind-spec : {M : Type 1} → statement M
 from-kind-spec = tie.close (tie.spec kinds-known-requires returns (λ c κs. search needs) returns-2)

@@ -6,7 +6,6 @@ use Prim.Native.Nat.{_*_}
 use Rattle.positions.specs.Positions.{roomForAll}
 use Rattle.rules.specs.OfMessage.{mostCents}
 use Rattle.refusing.specs.Refusals.{holds}
-use Rattle.refusing.specs.Checking.{callOf}
 use Rattle.refusing.specs.declared.Refusal.the-variants.{Limit, Space}
 use Rattle.refusing.proofs.Checking.{stops, goes-on, not-good}
 use borrow.Author.Needs.{needs}
@@ -18,16 +17,14 @@ unfolding holds
 returns c =
     let a = c .before .before .before .before .before .before .before .args in
     let m = c .before .before .before .before .before .before .before .pre .measured in
-    let call = callOf (a .terms) (a .sheet .now) (a .table .now) (a .register .now) (a .positions .now) (a .report .now) in
-    stops call Limit _ refl (not-good _ true _ (c .before .room-for-all .ensures ∙ (λ i. roomForAll (a .positions .now) (m .messageCount i * mostCents))) (c .if1 .taken))
+    stops _ Limit _ refl (not-good _ true _ (c .before .room-for-all .ensures ∙ (λ i. roomForAll (a .positions .now) (m .messageCount i * mostCents))) (c .if1 .taken))
 
 returns-2 : tie.Need-returns-2
 unfolding holds
 returns-2 c =
     let a = c .before .before .before .before .before .before .before .before .args in
     let m = c .before .before .before .before .before .before .before .before .pre .measured in
-    let call = callOf (a .terms) (a .sheet .now) (a .table .now) (a .register .now) (a .positions .now) (a .report .now) in
-    goes-on call Limit Space refl (not-good _ false _ (c .before .before .room-for-all .ensures ∙ (λ i. roomForAll (a .positions .now) (m .messageCount i * mostCents))) (c .before .if1 .left)) (c .from-space .result) (c .from-space .ensures)
+    goes-on _ Limit Space refl (not-good _ false _ (c .before .before .room-for-all .ensures ∙ (λ i. roomForAll (a .positions .now) (m .messageCount i * mostCents))) (c .before .if1 .left)) (c .from-space .result) (c .from-space .ensures)
 
 pub from-limit-spec : {M : Type 1} → statement M
 from-limit-spec = tie.close (tie.spec (λ c. search needs) (λ c κs. search needs) returns (λ c κs. search needs) returns-2)

@@ -4,7 +4,6 @@ use mathlib.Core.Path.{refl, ap, _∙_}
 use mathlib.Core.Bool.{true, false}
 use Rattle.positions.specs.Positions.{fits}
 use Rattle.refusing.specs.Refusals.{holds}
-use Rattle.refusing.specs.Checking.{callOf}
 use Rattle.refusing.specs.declared.Refusal.the-variants.{Positions, Register}
 use Rattle.refusing.proofs.Checking.{stops, goes-on, not-good}
 use borrow.Author.Needs.{needs}
@@ -15,15 +14,13 @@ returns : tie.Need-returns
 unfolding holds
 returns c =
     let a = c .before .before .before .before .before .before .before .before .args in
-    let call = callOf (a .terms) (a .sheet .now) (a .table .now) (a .register .now) (a .positions .now) (a .report .now) in
-    stops call Positions _ refl (not-good _ true _ (c .before .fit .ensures ∙ ap (fits (a .positions .now)) (c .before .before .rows .ensures)) (c .if1 .taken))
+    stops _ Positions _ refl (not-good _ true _ (c .before .fit .ensures ∙ ap (fits (a .positions .now)) (c .before .before .rows .ensures)) (c .if1 .taken))
 
 returns-2 : tie.Need-returns-2
 unfolding holds
 returns-2 c =
     let a = c .before .before .before .before .before .before .before .before .before .args in
-    let call = callOf (a .terms) (a .sheet .now) (a .table .now) (a .register .now) (a .positions .now) (a .report .now) in
-    goes-on call Positions Register refl (not-good _ false _ (c .before .before .fit .ensures ∙ ap (fits (a .positions .now)) (c .before .before .before .rows .ensures)) (c .before .if1 .left)) (c .from-register .result) (c .from-register .ensures)
+    goes-on _ Positions Register refl (not-good _ false _ (c .before .before .fit .ensures ∙ ap (fits (a .positions .now)) (c .before .before .before .rows .ensures)) (c .before .if1 .left)) (c .from-register .result) (c .from-register .ensures)
 
 pub from-positions-spec : {M : Type 1} → statement M
 from-positions-spec = tie.close (tie.spec (λ c κs. search needs) (λ c κs. search needs) returns (λ c κs. search needs) returns-2)

@@ -3,7 +3,6 @@
 use mathlib.Core.Path.{refl}
 use borrow.Author.Tests.{lt-ltb, le-ltb}
 use Rattle.refusing.specs.Refusals.{holds}
-use Rattle.refusing.specs.Checking.{callOf}
 use Rattle.refusing.specs.declared.Refusal.the-variants.{Room, Limit}
 use Rattle.refusing.proofs.Checking.{stops, goes-on}
 use borrow.Author.Needs.{needs}
@@ -13,18 +12,14 @@ use Rattle.refusing.proofs.from_room.Tie as tie
 returns : tie.Need-returns
 unfolding holds
 returns c =
-    let a = c .before .before .before .before .before .before .before .before .args in
     let m = c .before .before .before .before .before .before .before .before .pre .measured in
-    let call = callOf (a .terms) (a .sheet .now) (a .table .now) (a .register .now) (a .positions .now) (a .report .now) in
-    stops call Room _ refl (lt-ltb _ _ (rw (c .before .before .free .ensures, m .bulkCount, m .messageCount) at (c .if1 .taken)))
+    stops _ Room _ refl (lt-ltb _ _ (rw (c .before .before .free .ensures, m .bulkCount, m .messageCount) at (c .if1 .taken)))
 
 returns-2 : tie.Need-returns-2
 unfolding holds
 returns-2 c =
-    let a = c .before .before .before .before .before .before .before .before .before .args in
     let m = c .before .before .before .before .before .before .before .before .before .pre .measured in
-    let call = callOf (a .terms) (a .sheet .now) (a .table .now) (a .register .now) (a .positions .now) (a .report .now) in
-    goes-on call Room Limit refl (le-ltb _ _ (rw (c .before .before .before .free .ensures, m .bulkCount, m .messageCount) at (c .before .if1 .left))) (c .from-limit .result) (c .from-limit .ensures)
+    goes-on _ Room Limit refl (le-ltb _ _ (rw (c .before .before .before .free .ensures, m .bulkCount, m .messageCount) at (c .before .if1 .left))) (c .from-limit .result) (c .from-limit .ensures)
 
 pub from-room-spec : {M : Type 1} → statement M
 from-room-spec = tie.close (tie.spec (λ c κs. search needs) (λ c. search needs) returns (λ c κs. search needs) returns-2)

@@ -5,7 +5,6 @@ use mathlib.Core.Bool.{_||_}
 use lib.Dec.{ltb}
 use Rattle.refusing.specs.Refusals.{mostBulks, mostMessages}
 use Rattle.refusing.specs.Refusals.{holds}
-use Rattle.refusing.specs.Checking.{callOf}
 use Rattle.refusing.specs.declared.Refusal.the-variants.{Size, Kind}
 use Rattle.refusing.proofs.Checking.{stops, goes-on, few-told}
 use borrow.Author.Needs.{needs}
@@ -18,18 +17,14 @@ from-kind-requires c κs = few-told _ _ (c .before .before .before .before .befo
 returns : tie.Need-returns
 unfolding holds
 returns c =
-    let a = c .before .before .before .before .before .before .before .before .args in
     let m = c .before .before .before .before .before .before .before .before .pre in
-    let call = callOf (a .terms) (a .sheet .now) (a .table .now) (a .register .now) (a .positions .now) (a .report .now) in
-    stops call Size _ refl (sym (λ i. ltb mostBulks (m .bulkCount i) || ltb mostMessages (m .messageCount i)) ∙ c .if1 .taken)
+    stops _ Size _ refl (sym (λ i. ltb mostBulks (m .bulkCount i) || ltb mostMessages (m .messageCount i)) ∙ c .if1 .taken)
 
 returns-2 : tie.Need-returns-2
 unfolding holds
 returns-2 c =
-    let a = c .before .before .before .before .before .before .before .before .before .args in
     let m = c .before .before .before .before .before .before .before .before .before .pre in
-    let call = callOf (a .terms) (a .sheet .now) (a .table .now) (a .register .now) (a .positions .now) (a .report .now) in
-    goes-on call Size Kind refl (sym (λ i. ltb mostBulks (m .bulkCount i) || ltb mostMessages (m .messageCount i)) ∙ c .before .if1 .left) (c .from-kind .result) (c .from-kind .ensures)
+    goes-on _ Size Kind refl (sym (λ i. ltb mostBulks (m .bulkCount i) || ltb mostMessages (m .messageCount i)) ∙ c .before .if1 .left) (c .from-kind .result) (c .from-kind .ensures)
 
 pub from-size-spec : {M : Type 1} → statement M
 from-size-spec = tie.close (tie.spec returns from-kind-requires returns-2)

@@ -3,7 +3,6 @@
 use mathlib.Core.Path.{refl}
 use borrow.Author.Tests.{lt-ltb, le-ltb}
 use Rattle.refusing.specs.Refusals.{holds}
-use Rattle.refusing.specs.Checking.{callOf}
 use Rattle.refusing.specs.declared.Refusal.the-variants.{Space}
 use Rattle.refusing.proofs.Checking.{stops, passes}
 use borrow.Author.Needs.{needs}
@@ -13,18 +12,15 @@ use Rattle.refusing.proofs.from_space.Tie as tie
 returns : tie.Need-returns
 unfolding holds
 returns c =
-    let a = c .before .before .before .before .before .before .before .args in
     let m = c .before .before .before .before .before .before .before .pre .measured in
-    let call = callOf (a .terms) (a .sheet .now) (a .table .now) (a .register .now) (a .positions .now) (a .report .now) in
-    stops call Space _ refl (lt-ltb _ _ (rw (c .before .space-for .ensures, m .bulkCount, m .messageCount) at (c .if1 .taken)))
+    stops _ Space _ refl (lt-ltb _ _ (rw (c .before .space-for .ensures, m .bulkCount, m .messageCount) at (c .if1 .taken)))
 
 returns-2 : tie.Need-returns-2
 unfolding holds
 returns-2 c =
     let a = c .before .before .before .before .before .before .before .args in
     let m = c .before .before .before .before .before .before .before .pre .measured in
-    let call = callOf (a .terms) (a .sheet .now) (a .table .now) (a .register .now) (a .positions .now) (a .report .now) in
-    passes call Space (a .contents) refl (le-ltb _ _ (rw (c .before .space-for .ensures, m .bulkCount, m .messageCount) at (c .if1 .left))) m
+    passes _ Space (a .contents) refl (le-ltb _ _ (rw (c .before .space-for .ensures, m .bulkCount, m .messageCount) at (c .if1 .left))) m
 
 pub from-space-spec : {M : Type 1} → statement M
 from-space-spec = tie.close (tie.spec (λ c κs. search needs) returns returns-2)
