@@ -1,10 +1,10 @@
--- What a date is, as facts of its numbers: the year within the limits, the month one of twelve, the day one of the month's. With
--- them the first and the last date. Assumes nothing.
+-- What a date is, as facts of its numbers: the year within the limits, the month one of twelve, the day one of the month's. Assumes
+-- nothing.
 use mathlib.Core.Path.{_≡_}
 use mathlib.Core.Bool.{true, and-eq-true-iff}
 use mathlib.Core.List.{_∷_}
 use Prim.Native.Nat.{ℕ, zero, suc, _≤_, _<_}
-use native.Mathlib.Decide.{decLt, ℕ-discrete}
+use native.Mathlib.Decide.{decLt}
 use native.Mathlib.Omega.{arith}
 use borrow.Author.Tests.{leb-true}
 use lib.ListN.{List·getD-eq-default}
@@ -46,18 +46,3 @@ facts d h =
       fromFirstDay = from;
       toLastDay = to;
     }
-
-december : (y m : ℕ) → m ≡ 12 → daysIn y m ≡ 31
-unfolding daysIn
-december y m e = rw e
-
--- the first date and the last one
-pub limits : (d : ℕ) → isDate d ≡ true → (20000101 ≤ d) × (d ≤ 22991231)
-limits d h =
-    let f = facts d h in (
-      omega arith,
-      elim (ℕ-discrete (month d) 12) [
-        | yes e ↦ omega (arith, december (year d) (month d) e)
-        | no n ↦ omega arith
-      ],
-    )

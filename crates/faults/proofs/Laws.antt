@@ -1,10 +1,9 @@
--- Each fact stands at the bit of its name, and few bits are enough. Assumes nothing.
+-- Few bits are enough for all facts, and the parts of a key are as wide as they have to be. Assumes nothing.
 use mathlib.Core.Path.{_≡_, ap, _∙_}
 use mathlib.Core.List.{List}
 use Prim.Native.Nat.{ℕ, _<_, _^_}
 use native.Mathlib.Omega.{arith}
 use lib.ListN.{length}
-use Rattle.masks.specs.Mask.{mask}
 use Rattle.masks.proofs.Laws.{mask-below}
 use Rattle.sheet.specs.Reading.{headerIn, messageIn}
 use Rattle.sheet.specs.Sheet.{senderOf, bulkIdentifierOf, identifierOf}

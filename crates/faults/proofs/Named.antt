@@ -1,9 +1,11 @@
--- The fact that each named bit shows: the names and the lists of facts agree. Assumes nothing.
+-- The fact that each bit shows, and no other: the masks and the lists of facts agree, and the names and the lists. Assumes nothing.
 use mathlib.Core.Path.{_≡_, refl}
 use mathlib.Core.Bool.{Bool, false}
 use mathlib.Core.List.{List}
 use Prim.Native.Nat.{ℕ}
 use lib.ListN.{getD}
+use Rattle.masks.specs.Mask.{shown}
+use Rattle.masks.proofs.Laws.{mask-shows, mask-zero}
 use Rattle.sheet.specs.Sheet.{kindOf, bulkIdentifierOf, senderOf, statedNumberOf, statedSumOf, valueDateOf, marksOf, identifierOf, receiverOf, amountOf, originalOf, reasonOf, nameOf}
 use Rattle.register.specs.Register.{messageTag, bulkTag}
 use Rattle.wording.specs.Wording.{badlyFormed}
@@ -11,11 +13,21 @@ use Rattle.rules.specs.declared.Terms.{Terms}
 use Rattle.rules.specs.OfBulk.{marksWrong, noParticipant, dateWrong, repeated, empty, numberWrong, sumWrong}
 use Rattle.rules.specs.OfMessage.{receiverBadlyFormed, unreachable, amountWrong, tellsOriginal, reasonUnknown, nameUnknown, amountDiffers}
 use Rattle.faults.specs.Bits.{marksWrongBit, noParticipantBit, dateWrongBit, bulkBadlyFormedBit, bulkRepeatedBit, emptyBit, numberWrongBit, sumWrongBit, badlyFormedBit, repeatedBit, receiverBadlyFormedBit, unreachableBit, amountWrongBit, tellsOriginalBit, reasonUnknownBit, nameUnknownBit, amountDiffersBit}
-use Rattle.faults.specs.Faults.{senderRow, receiverRow, bulkFacts, messageFacts}
+use Rattle.faults.specs.Faults.{senderRow, receiverRow, bulkFacts, bulkFaults, messageFacts, messageFaults}
 
 module _ (terms : Terms) (table register header : List ℕ) (number sum : ℕ) where
-  abbrev ofBulk : ℕ → Bool
+  abbrev pub ofBulk : ℕ → Bool
   ofBulk bit = getD (bulkFacts terms table register header number sum) bit false
+
+  -- a bit is shown if its fact holds, and only then
+  pub bulk-shows : (bit : ℕ) → shown (bulkFaults terms table register header number sum) bit ≡ ofBulk bit
+  unfolding bulkFaults
+  bulk-shows bit = mask-shows (bulkFacts terms table register header number sum) bit
+
+  -- where there is no fault, no fact holds
+  pub bulk-clean : bulkFaults terms table register header number sum ≡ 0 → (bit : ℕ) → ofBulk bit ≡ false
+  unfolding bulkFaults
+  bulk-clean e bit = mask-zero (bulkFacts terms table register header number sum) bit e
 
   pub record BulkBits : Type 0 where
     pub atMarksWrongBit : ofBulk marksWrongBit ≡ marksWrong (marksOf header)
@@ -31,8 +43,16 @@ module _ (terms : Terms) (table register header : List ℕ) (number sum : ℕ) w
   bulk-bits = record { atMarksWrongBit = refl; atNoParticipantBit = refl; atDateWrongBit = refl; atBulkBadlyFormedBit = refl; atBulkRepeatedBit = refl; atEmptyBit = refl; atNumberWrongBit = refl; atSumWrongBit = refl }
 
 module _ (terms : Terms) (table register header message : List ℕ) where
-  abbrev ofMessage : ℕ → Bool
+  abbrev pub ofMessage : ℕ → Bool
   ofMessage bit = getD (messageFacts terms table register header message) bit false
+
+  pub message-shows : (bit : ℕ) → shown (messageFaults terms table register header message) bit ≡ ofMessage bit
+  unfolding messageFaults
+  message-shows bit = mask-shows (messageFacts terms table register header message) bit
+
+  pub message-clean : messageFaults terms table register header message ≡ 0 → (bit : ℕ) → ofMessage bit ≡ false
+  unfolding messageFaults
+  message-clean e bit = mask-zero (messageFacts terms table register header message) bit e
 
   pub record MessageBits : Type 0 where
     pub atBadlyFormedBit : ofMessage badlyFormedBit ≡ badlyFormed (identifierOf message)

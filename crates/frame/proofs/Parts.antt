@@ -2,19 +2,12 @@
 use mathlib.Core.Path.{_≡_, ap, _∙_}
 use mathlib.Core.Bool.{Bool, _&&_}
 use mathlib.Core.List.{List}
-use Prim.Native.Nat.{ℕ, _+_, _≤_}
-use native.Mathlib.Omega.{arith}
+use Prim.Native.Nat.{ℕ, _+_}
 use lib.Dec.{leb, eqb}
-use lib.ListN.{length, drop, length-drop}
-use lib.Seq.{take-all}
+use lib.ListN.{length, drop}
 use Rattle.wire.specs.Field.{part}
+use Rattle.wire.proofs.Texts.{rest-read}
 use Rattle.frame.specs.Frame.{mostPart, lengthIn, fits, partIn, afterPart, tableOn, registerOn, sheetOn, inShape}
-
--- all that is left from a place on
-pub rest-read : (s r : List ℕ) (at : ℕ) → r ≡ part s at (length s) → r ≡ drop at s
-rest-read s r at e =
-    let short : length (drop at s) ≤ length s = rw (length-drop at s) (omega arith) in
-    e ∙ take-all (length s) (drop at s) short
 
 pub after-read : (s r : List ℕ) (n : ℕ) → n ≡ lengthIn s → r ≡ part s (4 + n) (length s) → r ≡ afterPart s
 after-read s r n is e = rest-read s r (4 + n) e ∙ ap (λ (k : ℕ). drop (4 + k) s) is

@@ -8,7 +8,7 @@ use lib.ListN.{length, length-append}
 use lib.Seq.{sets}
 use Rattle.wire.proofs.Stores.{sets-then, sets-swap}
 use Rattle.routing.specs.Table.{rows}
-use Rattle.sheet.specs.Sheet.{countWidth as sheetCount, headerWidth, widthAt, countAt, afterMessages, Bulk, bulkAt, bulksFrom, bulksOf, bulkCount, firstSection, endFrom, messagesFrom, messageCount}
+use Rattle.sheet.specs.Sheet.{headerWidth, widthAt, countAt, afterMessages, Bulk, bulkAt, bulksFrom, bulksOf, bulkCount, firstSection, endFrom, messagesFrom, messageCount}
 use Rattle.sheet.specs.Reading.{HeaderRead, Inside, BulkTaken}
 use Rattle.sheet.specs.declared.BulkRead.{BulkRead}
 use Rattle.sheet.proofs.Bulks.{BulkWide, bulk-wide, bulks-wide}
@@ -32,8 +32,8 @@ sections-within sheet table positions report contents ready = (let space = ready
 module _ (terms : Terms) (table sheet : List ℕ) (bulks : ℕ) (before : State) (report₀ : List ℕ) where
   pub record BulksLeft (register positions report : List ℕ) (head at line to k : ℕ) : Type 0 where
     pub low : k ≤ bulks
-    pub headed : sheetCount + headerWidth * bulks ≤ length sheet
-    pub headHere : head ≡ sheetCount + headerWidth * k
+    pub headed : countWidth + headerWidth * bulks ≤ length sheet
+    pub headHere : head ≡ countWidth + headerWidth * k
     pub lineHere : line ≡ firstLine + bulkLineWidth * k
     pub toHere : sectionsPlace bulks ≤ to
     pub ended : endFrom sheet (bulks - k) head at ≡ length sheet
@@ -50,7 +50,7 @@ module _ (terms : Terms) (table sheet : List ℕ) (bulks : ℕ) (before : State)
         ≡ sets (sets report₀ firstLine (judgeBulks terms table (bulksOf sheet) before .lines)) (sectionsPlace bulks) (judgeBulks terms table (bulksOf sheet) before .sections)
 
   pub bulks-start : (contents : Contents) → contents .bulks ≡ bulks → BulksReady sheet table (before .positions) report₀ contents
-      → (head at : ℕ) → head ≡ sheetCount → at ≡ firstSection sheet → (line to : ℕ) → line ≡ firstLine → to ≡ sectionsPlace bulks
+      → (head at : ℕ) → head ≡ countWidth → at ≡ firstSection sheet → (line to : ℕ) → line ≡ firstLine → to ≡ sectionsPlace bulks
       → BulksLeft (before .register) (before .positions) report₀ head at line to 0
   bulks-start contents holds ready head at eh ea line to el et =
       let m = ready .few .measured in
@@ -75,7 +75,7 @@ module _ (terms : Terms) (table sheet : List ℕ) (bulks : ℕ) (before : State)
 
   module _ (register positions report : List ℕ) (head at line to k : ℕ) (left : BulksLeft register positions report head at line to k) where
     pub header-within : k < bulks → head + headerWidth ≤ length sheet
-    header-within h = rw (left .headHere) (header-bound sheet sheetCount bulks k (left .headed) h)
+    header-within h = rw (left .headHere) (header-bound sheet countWidth bulks k (left .headed) h)
 
     pub bulk-inside : k < bulks → Inside sheet head at
     bulk-inside h = end-bound sheet bulks k head at h (header-within h) (le-of-eq (left .ended))
@@ -172,7 +172,7 @@ module _ (terms : Terms) (table sheet : List ℕ) (bulks : ℕ) (before : State)
         unfolding theSection
         section-long =
             section-wide terms table (bulkAt sheet head at) (stateOf register positions) here-wide
-            ∙ (rw (records-length (widthAt sheet head) sheet (countAt sheet at) (at + sheetCount), en))
+            ∙ (rw (records-length (widthAt sheet head) sheet (countAt sheet at) (at + countWidth), en))
 
         left-long : length linesLeft ≡ bulkLineWidth * (bulks - (k + 1))
         unfolding linesLeft

@@ -31,7 +31,6 @@ use Rattle.report.specs.Line.{countWidth, bulkLine, bulkLineWidth, linesAt, mes
 use Rattle.report.specs.declared.Places.{Places}
 use Rattle.messages.specs.Messages.{State, judgeMessages, sumOf}
 use Rattle.messages.specs.Ready.{messagesOf, RulingReady, MessagesTold}
-use Rattle.messages.specs.declared.Ruling.{Ruling}
 use Rattle.judging.specs.Judgement.{bulkOutcome, faultsOfBulk, falls, messagesJudged, bulkLineOf, sectionOf, afterBulk}
 use Rattle.judging.specs.Ready.{bulkIn, HeaderReady, BulkSpace, BulkTold}
 

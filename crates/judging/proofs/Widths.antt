@@ -7,7 +7,7 @@ use native.Mathlib.Omega.{arith}
 use lib.ListN.{length, length-append}
 use Rattle.wire.specs.Field.{bytesOf}
 use Rattle.wire.proofs.Numbers.{bytes-length}
-use Rattle.sheet.specs.Sheet.{kindOf, Bulk, bulkIdentifierOf, countMessages, countWidth as sheetCount, bulkCount, messageCount, firstSection, bulksOf, whole}
+use Rattle.sheet.specs.Sheet.{kindOf, Bulk, bulkIdentifierOf, countMessages, bulkCount, messageCount, firstSection, bulksOf, whole}
 use Rattle.sheet.proofs.Bulks.{BulkWide, BulksWide, bulks-wide}
 use Rattle.sheet.proofs.Fields.{bulk-identifier-long}
 use Rattle.sheet.proofs.Laws.{whole-facts, bulks-length, bulks-messages}
@@ -59,13 +59,13 @@ module _ (call : Call) (e : whole (call .sheet) ≡ true) where
   pub all-wide : BulksWide (bulksOf (call .sheet))
   all-wide =
       let facts = whole-facts (call .sheet) e in
-      bulks-wide (call .sheet) b sheetCount (firstSection (call .sheet)) (facts .headed) (let end = facts .ended in omega arith)
+      bulks-wide (call .sheet) b countWidth (firstSection (call .sheet)) (facts .headed) (let end = facts .ended in omega arith)
 
   pub bulk-number : length (bulksOf (call .sheet)) ≡ b
-  bulk-number = bulks-length (call .sheet) b sheetCount (firstSection (call .sheet))
+  bulk-number = bulks-length (call .sheet) b countWidth (firstSection (call .sheet))
 
   pub message-number : countMessages (bulksOf (call .sheet)) ≡ m
-  message-number = bulks-messages (call .sheet) b sheetCount (firstSection (call .sheet))
+  message-number = bulks-messages (call .sheet) b countWidth (firstSection (call .sheet))
 
   pub lines-length : length (judgement call .lines) ≡ bulkLineWidth * b
   lines-length =

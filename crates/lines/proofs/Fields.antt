@@ -2,17 +2,12 @@
 use mathlib.Core.Path.{_≡_}
 use mathlib.Core.List.{List}
 use Prim.Native.Nat.{ℕ, _+_, _*_, _^_, _≤_, _<_}
-use native.Mathlib.Nat.{pow-le-pow-right, lt-of-lt-of-le}
 use native.Mathlib.Omega.{arith}
-use lib.Dec.{lit<}
 use lib.ListN.{length}
-use Rattle.wire.specs.Field.{Bytes, part, numberAt}
-use Rattle.wire.proofs.Numbers.{number-below}
-use Rattle.wire.proofs.Texts.{part-bytes, part-short}
+use Rattle.wire.specs.Field.{Bytes}
+use Rattle.wire.proofs.Numbers.{number-small}
+use Rattle.wire.proofs.Texts.{part-short}
 use Rattle.report.specs.Line.{identifierWidth, faultsPlace, acceptedNumberPlace, acceptedCentsPlace, rejectedNumberPlace, rejectedCentsPlace, identifierIn, faultsIn, totalsIn}
-
-number-small : (s : List ℕ) (at w : ℕ) → Bytes s → numberAt s at w < 256 ^ w
-number-small s at w bytes = lt-of-lt-of-le (number-below (part s at w) (part-bytes s at w bytes)) (pow-le-pow-right (lit< tt) (part-short s at w))
 
 -- ---- the fields of a line
 

@@ -2,16 +2,12 @@
 use mathlib.Core.Path.{_≡_, sym, ap, _∙_}
 use mathlib.Core.Bool.{Bool, true, false}
 use mathlib.Core.List.{List}
-use mathlib.Core.Option.{Option, none, some}
+use mathlib.Core.Option.{Option, some}
 use Prim.Native.Nat.{ℕ, _+_, _-_, _*_, _^_, _≤_, _<_}
-use native.Mathlib.Nat.{add-zero, sub-zero, lt-of-lt-of-le, pow-le-pow-right}
+use native.Mathlib.Nat.{add-zero, sub-zero}
 use native.Mathlib.Omega.{arith}
-use lib.Dec.{lit<}
 use lib.ListN.{length}
 use borrow.Author.Tests.{eq-eqb, ne-eqb}
-use Rattle.wire.specs.Field.{Bytes, part}
-use Rattle.wire.proofs.Numbers.{number-below}
-use Rattle.wire.proofs.Texts.{part-bytes, part-short}
 use Rattle.routing.specs.Promise.{Below}
 use Rattle.routing.specs.Table.{rows}
 use Rattle.sheet.specs.Sheet.{messageWidth, messageAt, recordsAt, amountOf}

@@ -1,16 +1,13 @@
--- What the judgement of a bulk's messages comes to: all of them and all their cents are counted, accepted or rejected, and each fault
--- shows if it holds and only then. Assumes nothing.
+-- What the judgement of a bulk's messages comes to: all of them and all their cents are counted, accepted or rejected. Assumes
+-- nothing.
 use mathlib.Core.Path.{_≡_, refl}
 use mathlib.Core.Bool.{Bool, true, false, cond}
 use mathlib.Core.List.{List, [], _∷_}
 use Prim.Native.Nat.{ℕ, _+_}
 use native.Mathlib.Omega.{arith}
-use lib.ListN.{length, getD}
-use Rattle.masks.specs.Mask.{shown}
-use Rattle.masks.proofs.Laws.{mask-shows}
+use lib.ListN.{length}
 use Rattle.sheet.specs.Sheet.{amountOf}
 use Rattle.rules.specs.declared.Terms.{Terms}
-use Rattle.faults.specs.Faults.{messageFacts, messageFaults}
 use Rattle.tally.specs.Tally.{Totals, withAccepted, withRejected}
 use Rattle.messages.specs.Messages.{State, sumOf, isAccepted, faultsOf, counted, afterMessage, judgeMessages}
 
@@ -33,9 +30,3 @@ module _ (terms : Terms) (table : List ℕ) where
       let rest = messages-held header fallen ms (afterMessage terms table header fallen m before) in
       let all = one-more (isAccepted fallen (faultsOf terms table header m before)) _ (amountOf m) (length ms) (sumOf ms) rest in
       record { numbers = (let n = all .numbers in omega arith); amounts = all .amounts }
-
-  -- bit k is shown if fact k holds, and only then
-  pub message-shows : (header message : List ℕ) (before : State) (k : ℕ)
-      → shown (faultsOf terms table header message before) k ≡ getD (messageFacts terms table (before .register) header message) k false
-  unfolding messageFaults
-  message-shows header message before k = mask-shows (messageFacts terms table (before .register) header message) k

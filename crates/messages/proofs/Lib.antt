@@ -4,5 +4,5 @@ pub mod Demands
 mod Loops
 mod Sums
 mod Verdicts
-mod Walks
+pub mod Walks
 pub mod Widths

@@ -4,14 +4,13 @@ use mathlib.Core.Path.{_≡_, refl, sym, ap, _∙_}
 use mathlib.Core.Bool.{true}
 use mathlib.Core.List.{List, [], _++_, append-nil, append-assoc}
 use Prim.Native.Nat.{ℕ, zero, suc, _+_, _*_, _^_, _≤_, _<_}
-use native.Mathlib.Nat.{mod-eq-of-lt, lt-of-lt-of-le, pow-le-pow-right}
+use native.Mathlib.Nat.{mod-eq-of-lt}
 use native.Mathlib.Omega.{arith}
-use lib.Dec.{lit<}
-use lib.ListN.{length, drop, length-append}
+use lib.ListN.{length, drop}
 use lib.Seq.{take-at, drop-at}
-use Rattle.wire.specs.Field.{Bytes, part, numberOf, bytesOf}
-use Rattle.wire.proofs.Numbers.{number-below, bytes-length, written-read}
-use Rattle.wire.proofs.Texts.{part-bytes, part-short, drop-bytes}
+use Rattle.wire.specs.Field.{Bytes, numberOf, bytesOf}
+use Rattle.wire.proofs.Numbers.{number-small, bytes-length, written-read}
+use Rattle.wire.proofs.Texts.{drop-bytes}
 use Rattle.sheet.specs.Sheet.{countWidth, headerWidth, widthAt, recordsAt, countAt, afterMessages, bulkAt, bulksFrom, bulkCount, messageCount, firstSection, endFrom, messagesFrom, whole}
 use Rattle.sheet.proofs.Bulks.{bulk-wide, sheet-length}
 use Rattle.sheet.proofs.Laws.{bulk-inside, end-next, records-length, whole-facts}
@@ -33,9 +32,6 @@ count-read : (n : ℕ) (xs : List ℕ) → n < 2 ^ 32 → countIn (bytesOf count
 count-read n xs h =
     ap numberOf (take-at (bytesOf countWidth n) xs countWidth (bytes-length countWidth n)) ∙ written-read countWidth n ∙ mod-eq-of-lt h
 
-counts-small : (s : List ℕ) (at : ℕ) → Bytes s → countAt s at < 2 ^ 32
-counts-small s at bytes = lt-of-lt-of-le (number-below (part s at countWidth) (part-bytes s at countWidth bytes)) (pow-le-pow-right (lit< tt) {j = countWidth} (part-short s at countWidth))
-
 -- ---- the sections
 
 section-read : (terms : Terms) (table sheet : List ℕ) (head at : ℕ) (before : State) (xs : List ℕ) → Bytes sheet
@@ -47,7 +43,7 @@ section-read terms table sheet head at before xs bytes =
     let lines = messagesJudged terms table (bulkAt sheet head at) before .lines in
     ap countIn (append-assoc (bytesOf countWidth (length (recordsAt (widthAt sheet head) sheet n (at + countWidth)))) lines xs)
     ∙ ap (λ (k : ℕ). countIn (bytesOf countWidth k ++ (lines ++ xs))) counted
-    ∙ count-read n (lines ++ xs) (counts-small sheet at bytes)
+    ∙ count-read n (lines ++ xs) (number-small sheet at countWidth bytes)
 
 module _ (terms : Terms) (table sheet : List ℕ) (bytes : Bytes sheet) where
   pub sections-read : (n head at : ℕ) (before : State) (xs : List ℕ) → head + headerWidth * n ≤ length sheet → endFrom sheet n head at ≤ length sheet
@@ -85,7 +81,7 @@ module _ (call : Call) (bytes : Bytes (call .sheet)) (e : whole (call .sheet) �
   report-text =
       let count : countIn (judgedReport call) ≡ bulkCount (call .sheet) =
       ap countIn (append-assoc (bytesOf countWidth (bulkCount (call .sheet))) (judgement call .lines) (judgement call .sections))
-      ∙ count-read (bulkCount (call .sheet)) (judgement call .lines ++ judgement call .sections) (counts-small (call .sheet) 0 bytes) in
+      ∙ count-read (bulkCount (call .sheet)) (judgement call .lines ++ judgement call .sections) (number-small (call .sheet) 0 countWidth bytes) in
       let left : drop (sectionsPlace (bulkCount (call .sheet))) (judgedReport call) ≡ judgement call .sections =
       drop-at (bytesOf countWidth (bulkCount (call .sheet)) ++ judgement call .lines) (judgement call .sections) (sectionsPlace (bulkCount (call .sheet))) (front-length call e) in
       rw (count, left)

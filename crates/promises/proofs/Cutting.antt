@@ -7,10 +7,8 @@ use native.Mathlib.Omega.{arith}
 use lib.ListN.{length, drop, length-drop}
 use lib.Seq.{take-all}
 use Rattle.wire.specs.Field.{part}
-use Rattle.sheet.specs.Sheet.{countWidth, headerWidth, Bulk, bulkCount, messageCount, firstSection, bulksFrom, bulksOf, messagesFrom, countMessages, endFrom, kindsKnown, mixed}
+use Rattle.sheet.specs.Sheet.{countWidth, headerWidth, Bulk, bulkCount, messageCount, firstSection, bulksFrom, bulksOf, messagesFrom, countMessages, endFrom, whole, kindsKnown, mixed}
 use Rattle.sheet.proofs.Laws.{whole-facts, end-forward}
-use Rattle.positions.proofs.Moves.{room-less}
-use Rattle.rules.specs.OfMessage.{mostCents}
 use Rattle.messages.specs.Messages.{State}
 use Rattle.judging.specs.Judgement.{judgeBulks}
 use Rattle.refusing.specs.Refusals.{Call, refusal}
@@ -18,9 +16,10 @@ use Rattle.judging.specs.Outcome.{Outcome, judgement, judgedOf, outcome}
 use Rattle.promises.specs.Reading.{InBytes, bulkLines, messageLines}
 use Rattle.promises.specs.Cut.{cutPlace, firstPart, secondPart, firstCall, secondCall, Enough, PartsMakeTheWhole, CutsAnywhere}
 use Rattle.sheet.proofs.Bulks.{bulks-split, messages-split, end-split}
-use Rattle.refusing.proofs.Clear.{Clear, clear-of, of-clear, headers, known-parts, order-parts}
+use Rattle.sheet.proofs.Headers.{headers, known-parts, order-parts}
+use Rattle.refusing.proofs.Clear.{Clear, clear-of, of-clear}
 use Rattle.judging.proofs.Answers.{outcome-judged}
-use Rattle.promises.proofs.Fit.{Fit, bulks-fit}
+use Rattle.promises.proofs.Fit.{Fit, fit-less, bulks-fit, clear-fit}
 use Rattle.promises.proofs.Joined.{joins}
 use Rattle.judging.proofs.Widths.{bulk-number, message-number}
 use Rattle.promises.proofs.Lines.{bulk-lines-read, message-lines-read}
@@ -106,66 +105,60 @@ module _ (call : Call) (clear : Clear call) (k : ℕ) (h : k ≤ bulkCount (call
     abbrev o2 : Outcome
     o2 = judgedOf c2 (judgement c2)
 
-    first-clear : Clear c1
-    first-clear =
-        let m = messages-are in
-        let n = first-holds .count in
-        let r = clear .room in
+    -- a part of the file is not refused, on a state that has room for it
+    part-clear : (t : List ℕ) (st : State) (space : List ℕ) → whole t ≡ true → bulkCount t ≤ b → messageCount t ≤ messageCount s
+        → kindsKnown (headers (bulksOf t)) ≡ true → mixed false (headers (bulksOf t)) ≡ false
+        → Fit (call .terms) (call .table) st (bulkCount t + messageCount t) (messageCount t) → Enough space t
+        → Clear (record { terms = call .terms; sheet = t; table = call .table; register = st .register; positions = st .positions; report = space })
+    part-clear t st space ended fewer fewer' known ordered fit enough =
         let fb = clear .fewBulks in
         let fm = clear .fewMessages in
         record {
           date = clear .date;
           table = clear .table;
-          places = clear .places;
-          formed = clear .formed;
-          whole = first-holds .whole;
+          places = fit .places;
+          formed = fit .formed;
+          whole = ended;
           fewBulks = omega arith;
           fewMessages = omega arith;
-          kinds = kinds-are .0;
-          order = order-is .0;
-          room = omega arith;
-          limit = room-less (call .positions) (messageCount s * mostCents) (messageCount one * mostCents) (clear .limit) (omega arith);
+          kinds = known;
+          order = ordered;
+          room = fit .free;
+          limit = fit .room;
           space = enough;
         }
 
-    -- the state that the first part leaves has room for the second
-    between : Fit (call .terms) (call .table) (judgement c1 .after) (bulkCount two + messageCount two) (messageCount two)
-    between =
+    -- the state that the file found has room for both parts
+    together : Fit (call .terms) (call .table) before (bulkCount one + messageCount one + (bulkCount two + messageCount two)) (messageCount one + messageCount two)
+    together =
         let m = messages-are in
         let n = first-holds .count in
         let n' = second-holds .count in
+        fit-less (call .terms) (call .table) before (b + messageCount s) (messageCount s)
+        (bulkCount one + messageCount one + (bulkCount two + messageCount two)) (messageCount one + messageCount two)
+        (clear-fit call clear (bytes .positions)) (omega arith) (omega arith)
+
+    first-clear : Clear c1
+    first-clear =
+        let m = messages-are in
+        let n = first-holds .count in
+        part-clear one before space (first-holds .whole) (omega arith) (omega arith) (kinds-are .0) (order-is .0)
+        (fit-less (call .terms) (call .table) before (bulkCount one + messageCount one + (bulkCount two + messageCount two)) (messageCount one + messageCount two) (bulkCount one + messageCount one) (messageCount one) together (omega arith) (omega arith)) enough
+
+    -- that which the first part leaves has room for the second
+    between : Fit (call .terms) (call .table) (judgement c1 .after) (bulkCount two + messageCount two) (messageCount two)
+    between =
         let ln = bulk-number c1 (first-clear .whole) in
         let lm = message-number c1 (first-clear .whole) in
-        let r = clear .room in
         bulks-fit (call .terms) (call .table) (bulksOf one) before (bulkCount two + messageCount two) (messageCount two)
-        (record {
-          formed = clear .formed;
-          free = omega arith;
-          places = clear .places;
-          bytes = bytes .positions;
-          room = room-less (call .positions) (messageCount s * mostCents) ((countMessages (bulksOf one) + messageCount two) * mostCents) (clear .limit) (omega arith);
-        })
+        (fit-less (call .terms) (call .table) before (bulkCount one + messageCount one + (bulkCount two + messageCount two)) (messageCount one + messageCount two)
+        (length (bulksOf one) + countMessages (bulksOf one) + (bulkCount two + messageCount two)) (countMessages (bulksOf one) + messageCount two) together (omega arith) (omega arith))
 
     second-clear : Clear c2
     second-clear =
         let m = messages-are in
         let n = second-holds .count in
-        let fb = clear .fewBulks in
-        let fm = clear .fewMessages in
-        record {
-          date = clear .date;
-          table = clear .table;
-          places = between .places;
-          formed = between .formed;
-          whole = second-holds .whole;
-          fewBulks = omega arith;
-          fewMessages = omega arith;
-          kinds = kinds-are .1;
-          order = order-is .1;
-          room = between .free;
-          limit = between .room;
-          space = enough';
-        }
+        part-clear two (judgement c1 .after) space' (second-holds .whole) (omega arith) (omega arith) (kinds-are .1) (order-is .1) between enough'
 
     parts-make : PartsMakeTheWhole (judgedOf call (judgement call)) o1 o2
     parts-make =

@@ -14,7 +14,7 @@ use ghost.Atoms.{Atoms}
 use contract.Monad.{Fun}
 use denote.Ref.{now}
 use Rattle.promises.specs.Determined.{Determines, Determined}
-use Rattle.promises.proofs.Told.{results, both, number, truth, bytes}
+use Rattle.promises.proofs.Told.{both, number, truth, bytes}
 use Rattle.wire.proofs as wire
 use Rattle.texts.proofs as texts
 use Rattle.writing.proofs as writing

@@ -28,7 +28,8 @@ use Rattle.promises.specs.Reading.{Payment, paymentOf, paymentKey, ownKe
 use Rattle.promises.specs.Demands.{centsPaid}
 use Rattle.promises.proofs.Added.{AllKeys, all-append, with-append, Added, none-added, all-added}
 use Rattle.sheet.proofs.Bulks.{MessagesWide, BulksWide}
-use Rattle.promises.proofs.Fit.{accepted-facts, verdict-facts, after-accepted, after-rejected}
+use Rattle.promises.proofs.Fit.{accepted-facts, verdict-facts}
+use Rattle.messages.proofs.Walks.{after-accepted, after-rejected}
 use Rattle.judging.proofs.Widths.{all-wide, bulk-number, message-number}
 use Rattle.promises.proofs.Lines.{sections-read}
 use Rattle.promises.proofs.Said.{Stands, paid, said-bulk, rest-there}

@@ -10,7 +10,6 @@ use lib.Dec.{eqb, leb}
 use lib.ListN.{length}
 use borrow.Author.Tests.{eqb-true, leb-true, not-true, not-false}
 use Rattle.wire.specs.Field.{Bytes}
-use Rattle.masks.proofs.Laws.{mask-zero}
 use Rattle.routing.specs.Table.{rows}
 use Rattle.routing.proofs.Laws.{office-below, route-below, reachable-row, participates-row}
 use Rattle.register.specs.Register.{key, messageTag, bulkTag, used, room, free, stands, add}
@@ -19,12 +18,16 @@ use Rattle.register.proofs.Laws.{add-formed, free-add}
 use Rattle.positions.specs.Positions.{positionWidth, HasRow, roomForAll, pays}
 use Rattle.positions.proofs.Laws.{pays-length, pays-bytes}
 use Rattle.positions.proofs.Moves.{room-less, pays-room}
-use Rattle.sheet.specs.Sheet.{Bulk, senderOf, identifierOf, receiverOf, amountOf, bulkIdentifierOf, countMessages}
+use Rattle.sheet.specs.Sheet.{Bulk, senderOf, identifierOf, receiverOf, amountOf, bulkIdentifierOf, countMessages, bulkCount, messageCount}
 use Rattle.rules.specs.declared.Terms.{Terms}
 use Rattle.rules.specs.OfMessage.{mostCents, amountWrong}
 use Rattle.faults.specs.Bits.{noParticipantBit, repeatedBit, unreachableBit, amountWrongBit}
-use Rattle.faults.specs.Faults.{senderRow, receiverRow, bulkFacts, bulkFaults, messageFacts, messageFaults}
+use Rattle.faults.specs.Faults.{senderRow, receiverRow}
+use Rattle.faults.proofs.Named.{bulk-clean, message-clean}
+use Rattle.refusing.specs.Refusals.{Call}
+use Rattle.refusing.proofs.Clear.{Clear}
 use Rattle.messages.specs.Messages.{State, isAccepted, sumOf, faultsOf, afterAccepted, afterMessage, judgeMessages}
+use Rattle.messages.proofs.Walks.{after-accepted, after-rejected}
 use Rattle.judging.specs.Judgement.{faultsOfBulk, falls, messagesJudged, afterBulk, judgeBulks}
 
 -- ---- what an accepted message is
@@ -45,35 +48,23 @@ module _ (terms : Terms) (table : List ℕ) where
   amount-small a e = leb-true a mostCents (and-eq-true-iff (leb 1 a) (leb a mostCents) .0 (not-false (leb 1 a && leb a mostCents) e) .1)
 
   pub accepted-facts : (header message : List ℕ) (before : State) → faultsOf terms table header message before ≡ 0 → Accepted header message before
-  unfolding messageFaults
   accepted-facts header message before e =
-      let facts = messageFacts terms table (before .register) header message in
-      let row = reachable-row table (receiverRow terms table message) (not-false _ (mask-zero facts unreachableBit e)) in
-      record { fresh = mask-zero facts repeatedBit e; row = row .0; found = row .1; small = amount-small (amountOf message) (mask-zero facts amountWrongBit e) }
+      let clean = message-clean terms table (before .register) header message e in
+      let row = reachable-row table (receiverRow terms table message) (not-false _ (clean unreachableBit)) in
+      record { fresh = clean repeatedBit; row = row .0; found = row .1; small = amount-small (amountOf message) (clean amountWrongBit) }
 
   -- a bulk without faults has a sender that sends
   pub sends-facts : (b : Bulk) (before : State) → falls terms table b before ≡ false → Sends (b .header)
-  unfolding bulkFaults
   sends-facts b before e =
       let none : faultsOfBulk terms table b before ≡ 0 = eqb-true _ 0 (not-false (eqb (faultsOfBulk terms table b before) 0) e) in
-      let facts = bulkFacts terms table (before .register) (b .header) (length (b .messages)) (sumOf (b .messages)) in
-      let row = participates-row table (senderRow terms table (b .header)) (not-false _ (mask-zero facts noParticipantBit none)) in
+      let clean = bulk-clean terms table (before .register) (b .header) (length (b .messages)) (sumOf (b .messages)) none in
+      let row = participates-row table (senderRow terms table (b .header)) (not-false _ (clean noParticipantBit)) in
       record { row = row .0; found = row .1 }
 
   pub verdict-facts : (fallen : Bool) (faults : ℕ) → isAccepted fallen faults ≡ true → (fallen ≡ false) × (faults ≡ 0)
   verdict-facts fallen faults e =
       let both = and-eq-true-iff (not fallen) (eqb faults 0) .0 e in
       (not-true fallen (both .0), eqb-true faults 0 (both .1))
-
-  pub after-accepted : (header : List ℕ) (fallen : Bool) (message : List ℕ) (before : State) → isAccepted fallen (faultsOf terms table header message before) ≡ true
-      → afterMessage terms table header fallen message before ≡ afterAccepted terms table header message before
-  unfolding afterMessage
-  after-accepted header fallen message before e = rw e
-
-  pub after-rejected : (header : List ℕ) (fallen : Bool) (message : List ℕ) (before : State) → isAccepted fallen (faultsOf terms table header message before) ≡ false
-      → afterMessage terms table header fallen message before ≡ before
-  unfolding afterMessage
-  after-rejected header fallen message before e = rw e
 
   -- ---- room for so many entries and so many payments more
 
@@ -150,10 +141,10 @@ module _ (terms : Terms) (table : List ℕ) where
         by-verdict : (t : Bool) → isAccepted fallen (faultsOf terms table header message before) ≡ t → Fit (afterMessage terms table header fallen message before) e p
         by-verdict true told =
             let facts = verdict-facts fallen (faultsOf terms table header message before) told in
-            rw (after-accepted header fallen message before told)
+            rw (after-accepted terms table header fallen message before told)
             (accepted-fit header message before e p (sends (facts .0)) (accepted-facts header message before (facts .1)) f)
         by-verdict false told =
-            rw (after-rejected header fallen message before told) (fit-less before (suc e) (suc p) e p f (omega arith) (omega arith))
+            rw (after-rejected terms table header fallen message before told) (fit-less before (suc e) (suc p) e p f (omega arith) (omega arith))
 
     pub messages-fit : (messages : List (List ℕ)) (before : State) (e p : ℕ) → Fit before (length messages + e) (length messages + p)
         → Fit (judgeMessages terms table header fallen messages before .after) e p
@@ -191,3 +182,9 @@ module _ (terms : Terms) (table : List ℕ) where
       bulks-fit bs (afterBulk terms table b before) e p
       (bulk-fit b before (k + m + e) (m + p)
       (fit-less before (suc k + (n + m) + e) (n + m + p) (suc (n + (k + m + e))) (n + (m + p)) f (omega arith) (omega arith)))
+
+-- ---- a call that is not refused finds room for all that its sheet can bring
+
+pub clear-fit : (call : Call) → Clear call → Bytes (call .positions)
+    → Fit (call .terms) (call .table) (record { register = call .register; positions = call .positions }) (bulkCount (call .sheet) + messageCount (call .sheet)) (messageCount (call .sheet))
+clear-fit call clear bytes = record { formed = clear .formed; free = clear .room; places = clear .places; bytes = bytes; room = clear .limit }

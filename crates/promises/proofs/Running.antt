@@ -18,7 +18,7 @@ use Rattle.register.specs.Room.{Parts}
 use Rattle.register.proofs.Laws.{key-length, keys-add, stands-listed}
 use Rattle.positions.specs.Positions.{positionAt, signed}
 use Rattle.positions.proofs.Moves.{share, pays-exact, room-less}
-use Rattle.sheet.specs.Sheet.{headerWidth, messageWidth, kindOf, Bulk, bulksOf, messageCount, countMessages, senderOf, identifierOf, receiverOf, amountOf, bulkIdentifierOf}
+use Rattle.sheet.specs.Sheet.{headerWidth, messageWidth, kindOf, Bulk, bulksOf, bulkCount, messageCount, countMessages, senderOf, identifierOf, receiverOf, amountOf, bulkIdentifierOf}
 use Rattle.rules.specs.declared.Terms.{Terms}
 use Rattle.rules.specs.OfMessage.{mostCents}
 use Rattle.messages.specs.Messages.{State, isAccepted, faultsOf, afterAccepted, afterMessage, judgeMessages}
@@ -31,7 +31,8 @@ use Rattle.sheet.proofs.Bulks.{MessagesWide, BulkWide, BulksWide}
 use Rattle.refusing.proofs.Clear.{Clear, clear-of}
 use Rattle.judging.proofs.Answers.{outcome-judged, outcome-refused}
 use Rattle.promises.proofs.Entered.{key-parts, own-key-parts, file-added}
-use Rattle.promises.proofs.Fit.{Sends, Accepted, Fit, has-row, accepted-facts, sends-facts, verdict-facts, after-accepted, after-rejected, pays-found, fit-less, message-fit, messages-fit, bulk-fit, bulks-fit}
+use Rattle.messages.proofs.Walks.{after-accepted, after-rejected}
+use Rattle.promises.proofs.Fit.{Sends, Accepted, Fit, has-row, accepted-facts, sends-facts, verdict-facts, pays-found, fit-less, message-fit, messages-fit, bulk-fit, bulks-fit, clear-fit}
 use Rattle.judging.proofs.Widths.{all-wide, bulk-number, message-number}
 use Rattle.promises.proofs.Said.{paid, paidBy, said-judged, said-refused}
 use Rattle.promises.proofs.Tracked.{Fresh, Tracked, tracked-none, tracked-then, tag-append, not-listed, none-twice, all-stand-from}
@@ -223,14 +224,7 @@ module _ (terms : Terms) (table : List ℕ) where
         enough clear =
             let n = bulk-number call (clear .whole) in
             let m = message-number call (clear .whole) in
-            let room = clear .room in
-            record {
-              formed = clear .formed;
-              free = omega arith;
-              places = clear .places;
-              bytes = bytes;
-              room = room-less (st .positions) (messageCount (file .sheet) * mostCents) ((countMessages bulks + 0) * mostCents) (clear .limit) (omega arith);
-            }
+            fit-less terms table st (bulkCount (file .sheet) + messageCount (file .sheet)) (messageCount (file .sheet)) (length bulks + countMessages bulks + 0) (countMessages bulks + 0) (clear-fit call clear bytes) (omega arith) (omega arith)
 
         by-answer : Dec (refusal call ≡ 0) → Kept st (stateAfter outcome terms table st file) (accepted (file .sheet) (outcome call))
         by-answer (yes e) =

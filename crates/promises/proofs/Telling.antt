@@ -20,11 +20,11 @@ use Rattle.report.proofs.Fields.{BulkLineRead, bulk-line-read}
 use Rattle.refusing.specs.Refusals.{mostMessages}
 use Rattle.refusing.proofs.Clear.{clear-of}
 use Rattle.messages.specs.Messages.{State, messageOutcome, sumOf, lineOf, afterMessage, judgeMessages}
-use Rattle.messages.proofs.Demands.{message-shows}
+use Rattle.faults.proofs.Named.{bulk-shows, message-shows}
 use Rattle.judging.specs.Judgement.{bulkAccepted, bulkPartial, bulkRejected, bulkOutcome, faultsOfBulk, falls, messagesJudged, bulkLineOf, sectionOf, afterBulk, judgeBulks}
 use Rattle.judging.specs.Outcome.{judgement, judgedOf, outcome}
 use Rattle.judging.proofs.Answers.{number-is, outcome-judged, outcome-refused}
-use Rattle.judging.proofs.Demands.{numbers-add-up, cents-add-up, bulk-shows}
+use Rattle.judging.proofs.Demands.{numbers-add-up, cents-add-up}
 use Rattle.promises.specs.Reading.{bulkLineFrom, messageLineFrom, saysFallen}
 use Rattle.promises.specs.Demands.{RefusesAsWritten, centsPaid, MessageTells, MessagesTell, BulkTells, BulksTell, EveryLineTells}
 use Rattle.sheet.proofs.Bulks.{MessagesWide, BulkWide, BulksWide}
@@ -76,7 +76,7 @@ module _ (terms : Terms) (table report : List ℕ) where
       record {
         identifier = read .identifierIs;
         outcome = read .outcomeIs ∙ ap (messageOutcome fallen) (sym (read .faultsIs));
-        faults = λ k. ap (λ (n : ℕ). shown n k) (read .faultsIs) ∙ message-shows terms table header m before k;
+        faults = λ k. ap (λ (n : ℕ). shown n k) (read .faultsIs) ∙ message-shows terms table (before .register) header m k;
       }
 
   messages-tell : (at : ℕ) (header : List ℕ) (fallen : Bool) (kind : ℕ) (ms : List (List ℕ)) (before : State) → MessagesWide kind ms
@@ -151,7 +151,7 @@ module _ (terms : Terms) (table report : List ℕ) where
         record {
           identifier = read .identifierIs;
           outcome = read .outcomeIs ∙ ap₂ bulkOutcome (sym fallen-read) (sym totals);
-          faults = λ k. ap (λ (n : ℕ). shown n k) (read .faultsIs) ∙ bulk-shows terms table b before k;
+          faults = λ k. ap (λ (n : ℕ). shown n k) (read .faultsIs) ∙ bulk-shows terms table (before .register) (b .header) (length (b .messages)) (sumOf (b .messages)) k;
           acceptedNumber = ap (λ (s : Totals). s .acceptedNumber) totals ∙ come .number ∙ ap length (sym said);
           acceptedCents = ap (λ (s : Totals). s .acceptedCents) totals ∙ come .cents ∙ ap centsPaid (sym said);
           numbers = ap (λ (s : Totals). s .acceptedNumber + s .rejectedNumber) totals ∙ numbers-add-up terms table b before;

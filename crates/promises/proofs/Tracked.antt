@@ -1,7 +1,7 @@
 -- Payments kept track of from one state to another: what they add to the register, what they move, and that none was there before.
 -- Assumes nothing.
 use mathlib.Core.Path.{_≡_, refl, sym, ap, ap₂, _∙_}
-use mathlib.Core.Bool.{Bool, true, false, cond, _||_, false≢true, or-assoc, or-true}
+use mathlib.Core.Bool.{Bool, true, false, cond, _||_, false≢true, or-true}
 use mathlib.Core.List.{List, [], _∷_, _++_, map, map-append, append-assoc, append-nil}
 use Prim.Native.Nat.{ℕ, _+_}
 use native.Mathlib.Nat.{zero-add, add-assoc}
@@ -10,7 +10,7 @@ use lib.IntN.{ℤ, pos, negℤ, _+ℤ_, _-ℤ_, +ℤ-assoc, +ℤ-comm, +ℤ-idr,
 use Rattle.wire.specs.Field.{same, numberAt}
 use Rattle.wire.proofs.Texts.{same-itself}
 use Rattle.register.specs.Register.{key, messageTag, tagPlace, keysOf, listed}
-use Rattle.register.proofs.Laws.{stands-listed}
+use Rattle.register.proofs.Laws.{stands-listed, listed-append}
 use Rattle.positions.specs.Positions.{positionAt, signed}
 use Rattle.rules.specs.declared.Terms.{Terms}
 use Rattle.messages.specs.Messages.{State}
@@ -58,11 +58,6 @@ tag-append (x ∷ xs) ys = by-test (eqb (numberAt x tagPlace 1) messageTag) (tag
         → cond t (x ∷ withMessageTag (xs ++ ys)) (withMessageTag (xs ++ ys)) ≡ cond t (x ∷ withMessageTag xs) (withMessageTag xs) ++ withMessageTag ys
     by-test true e = ap (λ (l : List (List ℕ)). x ∷ l) e
     by-test false e = e
-
-listed-append : (xs ys : List (List ℕ)) (e : List ℕ) → listed (xs ++ ys) e ≡ (listed xs e || listed ys e)
-unfolding listed
-listed-append [] ys e = refl
-listed-append (x ∷ xs) ys e = rw (listed-append xs ys e) (sym (or-assoc (same x e) (listed xs e) (listed ys e)))
 
 -- what is listed among those with the tag is listed among them all
 tag-listed : (xs : List (List ℕ)) (e : List ℕ) → listed (withMessageTag xs) e ≡ true → listed xs e ≡ true

@@ -1,16 +1,17 @@
 -- How the functions that ask one condition each hand on: where it holds, that is the answer; where not, that of the conditions after it.
 -- Assumes nothing.
-use mathlib.Core.Path.{_≡_, refl, sym, ap, _∙_}
-use mathlib.Core.Bool.{Bool, true, false, not, _||_, false≢true}
+use mathlib.Core.Path.{_≡_, sym, ap, _∙_}
+use mathlib.Core.Bool.{Bool, true, false, not, _||_}
 use mathlib.Core.List.{List, [], _∷_}
-use mathlib.Core.Option.{none, some}
+use mathlib.Core.Option.{some}
 use Prim.Native.Nat.{ℕ, _+_, _*_, _≤_}
 use lib.Dec.{ltb}
 use lib.ListN.{length}
 use borrow.Author.Tests.{ltb-false}
+use Rattle.wire.proofs.Sides.{both-false}
 use Rattle.sheet.specs.Sheet.{countWidth, headerWidth, shape}
-use Rattle.sheet.proofs.Laws.{whole-facts, shape-facts, shape-none}
-use Rattle.refusing.specs.Refusals.{Call, refusalNumber, mostBulks, mostMessages, holds, firstHolding}
+use Rattle.sheet.proofs.Laws.{whole-facts, shape-facts}
+use Rattle.refusing.specs.Refusals.{Call, mostBulks, mostMessages, holds, firstHolding}
 use Rattle.refusing.specs.Checking.{from, Measured, Few, Told}
 use Rattle.refusing.specs.declared.Contents.{Contents}
 use Rattle.refusing.specs.declared.Checked.{Checked}
@@ -50,10 +51,6 @@ pub measured-told : (sheet : List ℕ) (bulks messages : ℕ) → shape sheet �
 measured-told sheet bulks messages e =
     let facts = shape-facts sheet bulks messages e in
     record { whole = facts .whole; bulkCount = facts .bulks; messageCount = facts .messages }
-
-both-false : (a b : Bool) → (a || b) ≡ false → (a ≡ false) × (b ≡ false)
-both-false true b e = absurd (false≢true (sym e))
-both-false false b e = (refl, e)
 
 pub few-told : (sheet : List ℕ) (contents : Contents) → Measured sheet contents → (ltb mostBulks (contents .bulks) || ltb mostMessages (contents .messages)) ≡ false → Few sheet contents
 few-told sheet contents m e =

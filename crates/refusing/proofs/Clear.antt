@@ -1,8 +1,8 @@
 -- A call that is not refused: what each of the conditions then says, and that they are all there is. Assumes nothing.
 use mathlib.Core.Path.{_≡_, refl, sym, ap, _∙_}
-use mathlib.Core.Bool.{Bool, true, false, cond, not, _&&_, _||_, false≢true}
-use mathlib.Core.List.{List, [], _∷_, _++_, map}
-use Prim.Native.Nat.{ℕ, _+_, _*_, _≤_}
+use mathlib.Core.Bool.{Bool, true, false, cond, not}
+use mathlib.Core.List.{List, [], _∷_}
+use Prim.Native.Nat.{_+_, _*_, _≤_}
 use lib.Dec.{eqb, ltb}
 use lib.ListN.{length}
 use borrow.Author.Tests.{eqb-true, eqb-false, ltb-false, not-false, le-ltb, eq-eqb}
@@ -12,12 +12,13 @@ use Rattle.register.specs.Register.{free, wellFormed as registerFormed}
 use Rattle.register.specs.Room.{Formed}
 use Rattle.register.proofs.Laws.{formed-told, well-formed}
 use Rattle.positions.specs.Positions.{positionWidth, roomForAll}
-use Rattle.sheet.specs.Sheet.{countWidth, Bulk, bulkCount, messageCount, bulksOf, firstSection, whole, kindOf, knownKind, paymentKind, returnKind, headersOf, kindsKnown, mixed}
-use Rattle.sheet.proofs.Laws.{bulks-headers}
+use Rattle.sheet.specs.Sheet.{bulkCount, messageCount, bulksOf, whole, headersOf, kindsKnown, mixed}
+use Rattle.sheet.proofs.Headers.{headers, headers-of}
+use Rattle.wire.proofs.Sides.{both-false}
 use Rattle.rules.specs.OfMessage.{mostCents}
 use Rattle.report.specs.Line.{reportLength}
 use Rattle.refusing.specs.Refusals.{Call, refusalNumber, mostBulks, mostMessages, holds, refusals, firstHolding, refusal}
-use Rattle.refusing.specs.Checking.{fromIn, from}
+use Rattle.refusing.specs.Checking.{fromIn}
 use Rattle.refusing.specs.declared.Refusal.{Refusal}
 use Rattle.refusing.specs.declared.Refusal.the-variants.{Date, Table, Positions, Register, Sheet, Size, Kind, Order, Room, Limit, Space}
 use Rattle.refusing.proofs.Numbers.{some-number, in-order}
@@ -53,9 +54,6 @@ holds-none (r ∷ rs) call none = rw (none r) (holds-none rs call none)
 
 -- ---- the conditions, none of which holds
 
-abbrev pub headers : List Bulk → List (List ℕ)
-headers bs = map (λ b. b .header) bs
-
 pub record Clear (call : Call) : Type 0 where
   pub date : isDate (call .terms .date) ≡ true
   pub table : wellFormed (call .table) ≡ true
@@ -70,19 +68,11 @@ pub record Clear (call : Call) : Type 0 where
   pub limit : roomForAll (call .positions) (messageCount (call .sheet) * mostCents) ≡ true
   pub space : reportLength (bulkCount (call .sheet)) (messageCount (call .sheet)) ≤ length (call .report)
 
-or-false : (a b : Bool) → (a || b) ≡ false → (a ≡ false) × (b ≡ false)
-or-false true b e = absurd (false≢true (sym e))
-or-false false b e = (refl, e)
-
--- the headers of a sheet are those of its bulks
-headers-of : (s : List ℕ) → headers (bulksOf s) ≡ headersOf s (bulkCount s)
-headers-of s = bulks-headers s (bulkCount s) countWidth (firstSection s)
-
 pub clear-of : (call : Call) → refusal call ≡ 0 → Clear call
 unfolding holds
 clear-of call e =
     let none = none-holds call e in
-    let size = or-false (ltb mostBulks (bulkCount (call .sheet))) (ltb mostMessages (messageCount (call .sheet))) (none Size) in
+    let size = both-false (ltb mostBulks (bulkCount (call .sheet))) (ltb mostMessages (messageCount (call .sheet))) (none Size) in
     record {
       date = not-false (isDate (call .terms .date)) (none Date);
       table = not-false (wellFormed (call .table)) (none Table);
@@ -114,36 +104,3 @@ of-clear call c = holds-none refusals call none
     none Room = le-ltb (free (call .register)) (bulkCount (call .sheet) + messageCount (call .sheet)) (c .room)
     none Limit = ap not (c .limit)
     none Space = le-ltb (length (call .report)) (reportLength (bulkCount (call .sheet)) (messageCount (call .sheet))) (c .space)
-
--- ---- the kinds of the first bulks, and of the others
-
-pub known-parts : (xs ys : List (List ℕ)) → kindsKnown (xs ++ ys) ≡ true → (kindsKnown xs ≡ true) × (kindsKnown ys ≡ true)
-unfolding kindsKnown
-known-parts [] ys e = (refl, e)
-known-parts (x ∷ xs) ys e = by-test (known-parts xs ys) (knownKind (kindOf x)) e
-  where
-    by-test : (kindsKnown (xs ++ ys) ≡ true → (kindsKnown xs ≡ true) × (kindsKnown ys ≡ true)) → (t : Bool) → (t && kindsKnown (xs ++ ys)) ≡ true
-        → ((t && kindsKnown xs) ≡ true) × (kindsKnown ys ≡ true)
-    by-test later true e = later e
-    by-test later false e = absurd (false≢true e)
-
--- no payment after a return, so none either where fewer returns were seen
-mixed-less : (seen : Bool) (xs : List (List ℕ)) → mixed seen xs ≡ false → mixed false xs ≡ false
-unfolding mixed
-mixed-less false xs e = e
-mixed-less true [] e = refl
-mixed-less true (x ∷ xs) e =
-    let parts = or-false (eqb (kindOf x) paymentKind) (mixed true xs) e in
-    by-test (mixed-less true xs) (eqb (kindOf x) returnKind) (parts .1)
-  where
-    by-test : (mixed true xs ≡ false → mixed false xs ≡ false) → (t : Bool) → mixed true xs ≡ false → mixed t xs ≡ false
-    by-test less true e = e
-    by-test less false e = less e
-
-pub order-parts : (seen : Bool) (xs ys : List (List ℕ)) → mixed seen (xs ++ ys) ≡ false → (mixed seen xs ≡ false) × (mixed false ys ≡ false)
-unfolding mixed
-order-parts seen [] ys e = (refl, mixed-less seen ys e)
-order-parts seen (x ∷ xs) ys e =
-    let parts = or-false (seen && eqb (kindOf x) paymentKind) (mixed (seen || eqb (kindOf x) returnKind) (xs ++ ys)) e in
-    let rest = order-parts (seen || eqb (kindOf x) returnKind) xs ys (parts .1) in
-    (rw (parts .0) (rest .0), rest .1)

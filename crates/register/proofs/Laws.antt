@@ -6,11 +6,10 @@ use mathlib.Core.List.{List, [], _∷_, _++_, map, append-nil, List·Memᴰ, Lis
 use mathlib.Core.Option.{some}
 use Prim.Native.Nat.{ℕ, zero, suc, _+_, _-_, _*_, _/_, _^_, _≤_, _<_}
 use native.Mathlib.Nat.{sub-zero, add-zero, zero-add, add-suc, suc-add, mod-eq-of-lt, add-sub-cancel-left}
-use native.Mathlib.Numerals.{add-one}
 use native.Mathlib.Omega.{arith}
 use lib.Dec.{lit≤, leb, eqb}
 use lib.ListN.{length, take, drop, set, replicate, length-append, drop-of-length-le}
-use lib.Seq.{sets, sets-eq, length-sets, take-at, take-all, take-take, drop-at}
+use lib.Seq.{sets, sets-eq, length-sets, take-all, take-take}
 use borrow.Author.Tests.{leb-true, eqb-true, le-leb, eq-eqb}
 use Rattle.wire.specs.Field.{numberOf, bytesOf, same}
 use Rattle.wire.specs.Places.{firstFrom}
@@ -56,21 +55,6 @@ front-length s i p = simp length-append (omega (arith, p .senderWide, p .identif
 
 pub key-length : (s i : List ℕ) (t : ℕ) → Parts s i → length (key s i t) ≡ keyWidth
 key-length s i t p = simp length-append (omega (arith, p .senderWide, p .identifierWide))
-
--- equal keys have equal parts
-pub key-splits : (s i : List ℕ) (t : ℕ) (s' i' : List ℕ) (t' : ℕ) → Parts s i → Parts s' i' → key s i t ≡ key s' i' t'
-    → (s ≡ s') × (i ≡ i') × (t ≡ t')
-key-splits s i t s' i' t' p p' e = (
-  sym (take-at s i senderWidth (p .senderWide)) ∙ ap (take senderWidth) front ∙ take-at s' i' senderWidth (p' .senderWide),
-  sym (drop-at s i senderWidth (p .senderWide)) ∙ ap (drop senderWidth) front ∙ drop-at s' i' senderWidth (p' .senderWide),
-  cc last,
-)
-  where
-    front : (s ++ i) ≡ (s' ++ i')
-    front = sym (take-at (s ++ i) (t ∷ []) tagPlace (front-length s i p)) ∙ ap (take tagPlace) e ∙ take-at (s' ++ i') (t' ∷ []) tagPlace (front-length s' i' p')
-
-    last : (t ∷ []) ≡ (t' ∷ [])
-    last = sym (drop-at (s ++ i) (t ∷ []) tagPlace (front-length s i p)) ∙ ap (drop tagPlace) e ∙ drop-at (s' ++ i') (t' ∷ []) tagPlace (front-length s' i' p')
 
 -- a text as long as what it is written over
 sets-whole : (d xs : List ℕ) → length xs ≡ length d → sets d 0 xs ≡ xs
@@ -152,14 +136,6 @@ module _ (r k : List ℕ) where
 
 -- ---- the entries in use, and their keys
 
-to-length : (r : List ℕ) (n : ℕ) → length (entriesTo r n) ≡ n
-unfolding entriesTo
-to-length r zero = refl
-to-length r (suc n) = length-append (entriesTo r n) (entryAt r n ∷ []) ∙ (rw (to-length r n) (add-one n))
-
-pub entries-length : (r : List ℕ) → length (entriesOf r) ≡ inUse r
-entries-length r = to-length r (inUse r)
-
 to-kept : (r k : List ℕ) (n : ℕ) → n ≤ used r → entriesTo (add r k) n ≡ entriesTo r n
 unfolding entriesTo
 to-kept r k zero h = refl
@@ -184,10 +160,14 @@ keys-add r k f left wide =
 
 -- ---- what stands in the register
 
+pub listed-append : (xs ys : List (List ℕ)) (x : List ℕ) → listed (xs ++ ys) x ≡ (listed xs x || listed ys x)
+unfolding listed
+listed-append [] ys x = refl
+listed-append (k ∷ ks) ys x = rw (listed-append ks ys x) (sym (or-assoc (same k x) (listed ks x) (listed ys x)))
+
 listed-last : (ks : List (List ℕ)) (k x : List ℕ) → listed (ks ++ (k ∷ [])) x ≡ (listed ks x || same k x)
 unfolding listed
-listed-last [] k x = or-false (same k x)
-listed-last (j ∷ ks) k x = rw (listed-last ks k x) (sym (or-assoc (same j x) (listed ks x) (same k x)))
+listed-last ks k x = listed-append ks (k ∷ []) x ∙ ap (λ (t : Bool). listed ks x || t) (or-false (same k x))
 
 there-step : (f : ℕ → Bool) (n i : ℕ) → isThere (firstFrom f (suc n) i) ≡ (f i || isThere (firstFrom f n (suc i)))
 unfolding firstFrom
@@ -218,10 +198,6 @@ found-to r x (suc n) =
 pub stands-listed : (r x : List ℕ) → stands r x ≡ listed (keysOf r) x
 unfolding stands search
 stands-listed r x = found-to r x (inUse r)
-
-pub stands-add : (r k x : List ℕ) → Formed r → used r < room r → length k ≡ keyWidth → stands (add r k) x ≡ (stands r x || same k x)
-stands-add r k x f left wide =
-    rw (stands-listed (add r k) x, stands-listed r x, keys-add r k f left wide) (listed-last (keysOf r) k x)
 
 -- it stands there exactly if it is the key of an entry in use
 pub listed-member : (ks : List (List ℕ)) (x : List ℕ) → listed ks x ≡ true → List·Memᴰ x ks

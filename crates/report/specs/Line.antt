@@ -2,6 +2,7 @@
 use Prim.Native.Nat.{ℕ, _+_, _*_}
 use mathlib.Core.List.{List, _++_}
 use Rattle.wire.specs.Field.{part, numberAt, bytesOf}
+pub use Rattle.wire.specs.Field.{countWidth}
 use Rattle.tally.specs.Tally.{Totals}
 
 -- ---- the fields of a line. Both kinds begin with identifier, outcome and faults
@@ -90,9 +91,6 @@ totalsIn line =
     }
 
 -- ---- the report: the number of bulks and a line for each, then for each a section: the number of messages and a line for each
-
-abbrev pub countWidth : ℕ
-countWidth = 4
 
 abbrev pub firstLine : ℕ
 firstLine = countWidth

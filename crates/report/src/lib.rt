@@ -10,6 +10,7 @@ ghost use Rattle.report.specs.Line.{identifierWidth, lineHeadWidth, bulk
 ghost use Rattle.report.specs.Told.{PlacesTold};
 use tally::Cents;
 use tally::Tally;
+use wire::COUNT_WIDTH;
 
 const IDENTIFIER_WIDTH: usize = 35;
 
@@ -41,8 +42,6 @@ const REJECTED_CENTS_WIDTH: usize = 10;
 const BULK_LINE_WIDTH: usize = REJECTED_CENTS_PLACE + REJECTED_CENTS_WIDTH;
 
 const MESSAGE_LINE_WIDTH: usize = LINE_HEAD_WIDTH;
-
-const COUNT_WIDTH: usize = 4;
 
 // ---- places
 

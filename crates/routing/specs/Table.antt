@@ -5,6 +5,7 @@ use mathlib.Core.List.{List}
 use lib.ListN.{length}
 use lib.Dec.{leb, eqb}
 use Rattle.wire.specs.Field.{part, numberAt}
+pub use Rattle.wire.specs.Field.{countWidth}
 use Rattle.wire.specs.Places.{everyFrom}
 
 -- ---- a row: BIC, first date, last date, kind. The BIC is that of an institution, then of its branch
@@ -52,9 +53,6 @@ abbrev pub knownKind : ℕ → Bool
 knownKind kind = eqb kind notReachable || eqb kind participant || eqb kind holder || eqb kind throughStep2
 
 -- ---- the table: the number of rows, and the rows
-
-abbrev pub countWidth : ℕ
-countWidth = 4
 
 abbrev pub mostRows : ℕ
 mostRows = 8192

@@ -7,6 +7,7 @@ ghost use Rattle.wire.specs.Field.{numberAt};
 ghost use Rattle.routing.specs.Table.{dateWidth, rowAt, rowWidth, rows, knownKind, kindAt, kindsKnown};
 ghost use Rattle.routing.specs.Promise.{FormTold, RowTold, AnswerTold};
 ghost use Rattle.routing.specs.Lookup.{lookupNumber, optionOf, counts, bears, rowOf, headOfficeRow, route, reachable, participates, lookup};
+use wire::COUNT_WIDTH;
 
 const INSTITUTION_WIDTH: usize = 8;
 
@@ -23,8 +24,6 @@ const LAST_DATE_PLACE: usize = FIRST_DATE_PLACE + DATE_WIDTH;
 const KIND_PLACE: usize = LAST_DATE_PLACE + DATE_WIDTH;
 
 const ROW_WIDTH: usize = KIND_PLACE + 1;
-
-const COUNT_WIDTH: usize = 4;
 
 const MOST_ROWS: usize = 8192;
 

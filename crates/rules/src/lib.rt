@@ -1,5 +1,5 @@
-// The faults of a bulk and of a message: one function for each, of the fields that it looks at and no more. Which bit shows it is
-// said in the crate faults.
+// The faults of a bulk and of a message: a function for each, of the fields that it looks at and no more; that of badly formed
+// identifiers is in the crate wording. Which bit shows it is said in the crate faults.
 ghost use mathlib.Core.Path.{_≡_};
 ghost use Rattle.routing.specs.Lookup.{optionOf};
 ghost use Rattle.register.specs.Room.{Parts};

@@ -1,13 +1,12 @@
 -- How long the printed lines can be in all, of any bytes. Assumes nothing.
 use mathlib.Core.List.{List}
-use Prim.Native.Nat.{ℕ, zero, suc, _+_, _*_, _^_, _≤_, _<_}
-use native.Mathlib.Nat.{pow-le-pow-right, lt-of-lt-of-le}
+use Prim.Native.Nat.{ℕ, zero, suc, _+_, _*_, _^_, _≤_}
 use native.Mathlib.Omega.{arith}
-use lib.Dec.{lit<, lit≤}
+use lib.Dec.{lit≤}
 use lib.ListN.{length, take, drop, length-append}
-use Rattle.wire.specs.Field.{Bytes, part, numberAt}
-use Rattle.wire.proofs.Numbers.{number-below}
-use Rattle.wire.proofs.Texts.{part-bytes, part-short, take-bytes, drop-bytes}
+use Rattle.wire.specs.Field.{Bytes}
+use Rattle.wire.proofs.Numbers.{number-small}
+use Rattle.wire.proofs.Texts.{take-bytes, drop-bytes}
 use Rattle.report.specs.Line.{bulkLineWidth, messageLineWidth}
 use Rattle.positions.specs.Positions.{positionWidth, rows, positionAt}
 use Rattle.register.specs.Register.{used}
@@ -17,9 +16,6 @@ use Rattle.figures.specs.Figures.{positionText, usedText}
 use Rattle.figures.proofs.Lengths.{number-line-short, position-short}
 use Rattle.sections.specs.Layout.{countIn, afterCount, laterSections}
 use Rattle.sections.specs.Sections.{messagesText, bulksText, positionsFrom, positionsText}
-
-number-small : (s : List ℕ) (at w : ℕ) → Bytes s → numberAt s at w < 256 ^ w
-number-small s at w bytes = lt-of-lt-of-le (number-below (part s at w) (part-bytes s at w bytes)) (pow-le-pow-right (lit< tt) (part-short s at w))
 
 -- ---- the entries in use
 

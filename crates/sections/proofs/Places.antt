@@ -4,18 +4,12 @@ use mathlib.Core.Logic.{⊎-elim}
 use mathlib.Core.List.{List}
 use Prim.Native.Nat.{ℕ, _+_, _*_, _≤_, _<_, min}
 use native.Mathlib.Omega.{arith}
-use lib.ListN.{length, drop, length-drop, drop-of-length-le}
-use lib.Seq.{take-all, drop-drop}
-use Rattle.wire.specs.Field.{part, numberAt}
+use lib.ListN.{length, drop, drop-of-length-le}
+use lib.Seq.{drop-drop}
+use Rattle.wire.specs.Field.{numberAt}
 use Rattle.wire.proofs.Sides.{le-or-lt}
 use Rattle.report.specs.Line.{messageLineWidth}
 use Rattle.sections.specs.Layout.{laterSections}
-
--- all that is left from a place on
-pub rest-read : (s r : List ℕ) (at : ℕ) → r ≡ part s at (length s) → r ≡ drop at s
-rest-read s r at e =
-    let short : length (drop at s) ≤ length s = rw (length-drop at s) (omega arith) in
-    e ∙ take-all (length s) (drop at s) short
 
 drop-clipped : (s : List ℕ) (at : ℕ) → drop (min at (length s)) s ≡ drop at s
 drop-clipped s at = ⊎-elim

@@ -2,14 +2,14 @@
 use mathlib.Core.Path.{_≡_, sym, ap, _∙_}
 use mathlib.Core.List.{List}
 use Prim.Native.Nat.{ℕ, _+_, _^_, _≤_, _<_}
-use native.Mathlib.Nat.{add-zero, lt-of-lt-of-le, pow-le-pow-right}
+use native.Mathlib.Nat.{add-zero}
 use native.Mathlib.Omega.{arith}
 use lib.Dec.{lit≤, lit<}
 use lib.ListN.{length}
 use Rattle.wire.specs.Field.{Bytes, part, numberOf, numberAt}
-use Rattle.wire.proofs.Numbers.{number-below}
-use Rattle.wire.proofs.Texts.{part-bytes, part-length, part-part, part-short}
-use Rattle.sheet.specs.Sheet.{identifierWidth, senderWidth, receiverWidth, reasonWidth, nameWidth, bulkIdentifierPlace, senderPlace, statedNumberPlace, statedSumPlace, valueDatePlace, marksPlace, headerWidth, kindOf, bulkIdentifierOf, senderOf, statedNumberOf, statedSumOf, valueDateOf, marksOf, identifierPlace, receiverPlace, amountPlace, originalPlace, reasonPlace, namePlace, fieldsWidth, messageWidth, identifierOf, receiverOf, amountOf, originalOf, reasonOf, nameOf, headerAt, messageAt}
+use Rattle.wire.proofs.Numbers.{number-small}
+use Rattle.wire.proofs.Texts.{part-bytes, part-length, part-part}
+use Rattle.sheet.specs.Sheet.{centsWidth, identifierWidth, senderWidth, receiverWidth, reasonWidth, nameWidth, bulkIdentifierPlace, senderPlace, statedNumberPlace, statedSumPlace, valueDatePlace, marksPlace, headerWidth, kindOf, bulkIdentifierOf, senderOf, statedNumberOf, statedSumOf, valueDateOf, marksOf, identifierPlace, receiverPlace, amountPlace, originalPlace, reasonPlace, namePlace, fieldsWidth, messageWidth, identifierOf, receiverOf, amountOf, originalOf, reasonOf, nameOf, headerAt, messageAt}
 
 -- ---- the width of a message: it covers the fields, and is small enough that the messages of a section never pass a word
 
@@ -122,21 +122,10 @@ module _ (kind : ℕ) (s : List ℕ) (at : ℕ) (fits : at + messageWidth kind �
   pub identifier-width : length (identifierOf (messageAt kind s at)) ≡ identifierWidth
   identifier-width = identifier-long kind (messageAt kind s at) message-width
 
-  pub receiver-width : length (receiverOf (messageAt kind s at)) ≡ receiverWidth
-  receiver-width = receiver-long kind (messageAt kind s at) message-width
-
-  pub reason-width : length (reasonOf (messageAt kind s at)) ≡ reasonWidth
-  reason-width = reason-long kind (messageAt kind s at) message-width
-
-  pub name-width : length (nameOf (messageAt kind s at)) ≡ nameWidth
-  name-width = name-long kind (messageAt kind s at) message-width
-
 -- ---- an amount is a word
 
 pub amount-below : (message : List ℕ) → Bytes message → amountOf message < 2 ^ 64
-amount-below message bytes =
-    lt-of-lt-of-le (number-below (part message amountPlace 8) (part-bytes message amountPlace 8 bytes))
-    (pow-le-pow-right (lit< tt) {j = 8} (part-short message amountPlace 8))
+amount-below message bytes = number-small message amountPlace centsWidth bytes
 
 pub amount-word : (kind : ℕ) (s : List ℕ) (at amount : ℕ) → Bytes s → amount ≡ amountOf (messageAt kind s at) → amount < 2 ^ 64
 amount-word kind s at amount bytes e = rw e (amount-below (messageAt kind s at) (part-bytes s at (messageWidth kind) bytes))

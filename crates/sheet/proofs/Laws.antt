@@ -5,7 +5,7 @@ use mathlib.Core.Bool.{Bool, true, false, cond, _&&_, _||_, false≢true}
 use mathlib.Core.List.{List, [], _∷_, map}
 use mathlib.Core.Option.{Option, none, some}
 use Prim.Native.Nat.{ℕ, zero, suc, _+_, _-_, _*_, _^_, _≤_, _<_}
-use native.Mathlib.Nat.{mul-le-mul-left, mul-le-mul-right, le-of-eq}
+use native.Mathlib.Nat.{mul-le-mul-left, mul-le-mul-right}
 use native.Mathlib.Omega.{arith}
 use lib.Dec.{leb, eqb}
 use lib.ListN.{length, getD}
@@ -182,12 +182,6 @@ shape-none s e = by-test (whole s) refl e
     by-test : (t : Bool) → whole s ≡ t → tested s t ≡ none → whole s ≡ false
     by-test true w told = absurd (let z : _≡_ {A = ℕ} 0 1 = cc in omega arith)
     by-test false w told = w
-
--- a bulk of a whole sheet lies in it: a walk that stands at bulk k, and ends where the sheet does
-pub walk-inside : (s : List ℕ) (k head at : ℕ) → firstSection s ≤ length s → k < bulkCount s → head ≡ countWidth + headerWidth * k
-    → endFrom s (bulkCount s - k) head at ≡ length s → Inside s head at
-walk-inside s k head at headed h here ends =
-    end-bound s (bulkCount s) k head at h (rw here (header-bound s countWidth (bulkCount s) k headed h)) (le-of-eq ends)
 
 -- a walk over the bulks, at place k of b: what is left of it ends where the whole ends
 module _ (s : List ℕ) (b k head at : ℕ) (so-far : endFrom s (b - k) head at ≡ endFrom s (bulkCount s) countWidth (firstSection s)) where

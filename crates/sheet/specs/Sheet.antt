@@ -7,6 +7,7 @@ use mathlib.Core.Option.{Option, none, some}
 use lib.ListN.{length}
 use lib.Dec.{leb, eqb}
 use Rattle.wire.specs.Field.{part, numberAt}
+pub use Rattle.wire.specs.Field.{countWidth}
 
 -- ---- the widths of numbers and texts
 
@@ -133,9 +134,6 @@ abbrev pub nameOf : List ℕ → List ℕ
 nameOf message = part message namePlace nameWidth
 
 -- ---- sections, each after its count
-
-abbrev pub countWidth : ℕ
-countWidth = 4
 
 abbrev pub countAt : List ℕ → ℕ → ℕ
 countAt sheet at = numberAt sheet at countWidth

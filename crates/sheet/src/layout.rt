@@ -2,10 +2,9 @@
 ghost use mathlib.Core.Path.{_≡_};
 ghost use Prim.Native.Nat.{_+_, _*_, _^_, _<_};
 ghost use Rattle.sheet.specs.Sheet.{countWidth, headerWidth, messageWidth};
+use wire::COUNT_WIDTH;
 
-// The widths of a count and of texts.
-pub(crate) const COUNT_WIDTH: usize = 4;
-
+// The widths of texts.
 pub(crate) const IDENTIFIER_WIDTH: usize = 35;
 
 pub(crate) const SENDER_WIDTH: usize = 8;

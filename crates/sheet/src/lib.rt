@@ -77,7 +77,7 @@ impl Cursor {
         Counted {
             count: wire::u32_at(s, at),
             next: Cursor {
-                at: at + layout::COUNT_WIDTH,
+                at: at + wire::COUNT_WIDTH,
             },
         }
     }
@@ -183,7 +183,7 @@ impl Walk {
     {
         Walk {
             heads: Cursor {
-                at: layout::COUNT_WIDTH,
+                at: wire::COUNT_WIDTH,
             },
             bodies: Cursor {
                 at: layout::first_section(wire::u32_at(s, 0)),
@@ -225,7 +225,7 @@ pub fn measure(s: &[u8]) -> Shape
 {
     let count = wire::u32_at(s, 0);
     let bulks = count as usize;
-    let mut head = layout::COUNT_WIDTH;
+    let mut head = wire::COUNT_WIDTH;
     let mut at = layout::first_section(count);
     let mut messages = 0;
     let mut k = 0;
@@ -251,7 +251,7 @@ pub fn kinds_known(s: &[u8], n: usize) -> bool
     requires { ⌜ countWidth + headerWidth * n ≤ length (now s) ⌝ }
     ensures { λ r. ⌜ r ≡ kindsKnown (headersOf (now (s .entry)) n) ⌝ }
 {
-    let mut at = layout::COUNT_WIDTH;
+    let mut at = wire::COUNT_WIDTH;
     let mut k = 0;
     while k < n {
         let kind = s[at];
@@ -270,7 +270,7 @@ pub fn kinds_mixed(s: &[u8], n: usize) -> bool
     ensures { λ r. ⌜ r ≡ mixed false (headersOf (now (s .entry)) n) ⌝ }
 {
     let mut seen = false;
-    let mut at = layout::COUNT_WIDTH;
+    let mut at = wire::COUNT_WIDTH;
     let mut k = 0;
     while k < n {
         let kind = s[at];

@@ -153,13 +153,17 @@ pub word-step : (s : List ℕ) (i v b : ℕ) → Bytes s → i < length s → v 
     → v % 72057594037927936 * 256 + b ≡ numberOf (take (i + 1) s) % 2 ^ 64
 word-step s i v b bytes h read here = rw (read, here, number-more s i h) (word-more (numberOf (take i s)) (getD s i 0) (bytes i))
 
+-- a field of w bytes holds no larger number
+pub number-small : (s : List ℕ) (at w : ℕ) → Bytes s → numberAt s at w < 256 ^ w
+number-small s at w bytes = lt-of-lt-of-le (number-below (part s at w) (part-bytes s at w bytes)) (pow-le-pow-right (lit< tt) (part-short s at w))
+
 -- a field that was read as a word
 pub field-read : (s : List ℕ) (at n : ℕ) (f : List ℕ) (r : ℕ) → Bytes s → n ≤ 8 → f ≡ part s at n → r ≡ numberOf f % 2 ^ 64
     → (r ≡ numberAt s at n) × (r < 256 ^ n)
 field-read s at n f r bytes short ef er =
     let fits : numberAt s at n % 2 ^ 64 ≡ numberAt s at n = word-fits (part s at n) (part-bytes s at n bytes) (le-trans (part-short s at n) short) in
     let value : r ≡ numberAt s at n = er ∙ ap (λ (l : List ℕ). numberOf l % 2 ^ 64) ef ∙ fits in
-    (value, rw value (lt-of-lt-of-le (number-below (part s at n) (part-bytes s at n bytes)) (pow-le-pow-right (lit< tt) (part-short s at n))))
+    (value, rw value (number-small s at n bytes))
 
 -- ten bytes as two words: all but the last eight bytes, and the last eight
 pub halves-read : (f : List ℕ) (high : ℕ) → Bytes f → length f ≤ 10 → high ≡ length f - min 8 (length f)

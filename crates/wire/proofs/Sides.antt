@@ -1,7 +1,7 @@
--- Two numbers stand one way or the other. Assumes nothing.
-use mathlib.Core.Path.{_≡_, refl}
+-- Two numbers stand one way or the other; two tests, neither of which holds. Assumes nothing.
+use mathlib.Core.Path.{_≡_, refl, sym}
 use mathlib.Core.Logic.{_⊎_, inl, inr}
-use mathlib.Core.Bool.{Bool, true, false}
+use mathlib.Core.Bool.{Bool, true, false, _||_, false≢true}
 use Prim.Native.Nat.{ℕ, _≤_, _<_}
 use lib.Dec.{leb}
 use borrow.Author.Tests.{leb-true, leb-false}
@@ -12,3 +12,7 @@ by-test a b false e = inr (leb-false a b e)
 
 pub le-or-lt : (a b : ℕ) → (a ≤ b) ⊎ (b < a)
 le-or-lt a b = by-test a b (leb a b) refl
+
+pub both-false : (a b : Bool) → (a || b) ≡ false → (a ≡ false) × (b ≡ false)
+both-false true b e = absurd (false≢true (sym e))
+both-false false b e = (refl, e)

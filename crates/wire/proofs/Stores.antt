@@ -30,9 +30,6 @@ sets-last d at (x ∷ xs) y =
     ∙ ap (λ (k : ℕ). sets (set (set d at x) k y) (suc at) xs) place
     ∙ ap (λ (l : List ℕ). sets l (suc at) xs) (set-comm d at (at + suc (length xs)) x y (omega arith))
 
-pub sets-one : (d : List ℕ) (at : ℕ) (x : ℕ) (xs : List ℕ) → sets d at (x ∷ xs) ≡ sets (set d at x) (at + 1) xs
-sets-one d at x xs = rw add-one
-
 -- a run that starts past the end stores nothing
 pub sets-out : (d : List ℕ) (at : ℕ) (xs : List ℕ) → length d ≤ at → sets d at xs ≡ d
 sets-out d at [] h = refl
@@ -63,24 +60,37 @@ part-after d at [] a n h = refl
 part-after d at (x ∷ xs) a n h =
     part-after (set d at x) (suc at) xs a n (omega arith) ∙ ap (take n) (drop-set-lt a d at x (omega arith))
 
--- ---- a number stored from its last byte on
+-- ---- a number stored from its last digit on: to any base, whatever stands for a digit
 
-last-first : (d : List ℕ) (at j x : ℕ) → sets d at (bytesOf (suc j) x) ≡ sets (set d (at + j) (x % 256)) at (bytesOf j (x / 256))
+module _ (base : ℕ) (digit : ℕ → ℕ) (digits : ℕ → ℕ → List ℕ)
+    (long : (j x : ℕ) → length (digits j x) ≡ j) (more : (j x : ℕ) → digits (suc j) x ≡ digits j (x / base) ++ (digit x ∷ [])) where
+  last-first : (d : List ℕ) (at j x : ℕ) → sets d at (digits (suc j) x) ≡ sets (set d (at + j) (digit x)) at (digits j (x / base))
+  last-first d at j x =
+      ap (sets d at) (more j x)
+      ∙ sets-last d at (digits j (x / base)) (digit x)
+      ∙ ap (λ (k : ℕ). sets (set d (at + k) (digit x)) at (digits j (x / base))) (long j (x / base))
+
+  pub digit-last : (d : List ℕ) (at i x : ℕ) → 0 < i → sets (set d (at + (i - 1)) (digit x)) at (digits (i - 1) (x / base)) ≡ sets d at (digits i x)
+  digit-last d at zero x h = absurd (omega arith)
+  digit-last d at (suc j) x h = let less : suc j - 1 ≡ j = omega arith in rw less (sym (last-first d at j x))
+
+  -- a digit that has no room is left out
+  pub digit-last-out : (d : List ℕ) (at i x : ℕ) → 0 < i → length d ≤ at + (i - 1) → sets d at (digits (i - 1) (x / base)) ≡ sets d at (digits i x)
+  digit-last-out d at i x h out =
+      ap (λ (l : List ℕ). sets l at (digits (i - 1) (x / base))) (sym (set-out d (at + (i - 1)) (digit x) out)) ∙ digit-last d at i x h
+
+-- bytes are the digits to the base 256
+bytes-more : (j x : ℕ) → bytesOf (suc j) x ≡ bytesOf j (x / 256) ++ (x % 256 ∷ [])
 unfolding bytesOf
-last-first d at j x =
-    sets-last d at (bytesOf j (x / 256)) (x % 256)
-    ∙ ap (λ (k : ℕ). sets (set d (at + k) (x % 256)) at (bytesOf j (x / 256))) (bytes-length j (x / 256))
+bytes-more j x = refl
 
 pub number-last : (d : List ℕ) (at i x : ℕ) → 0 < i
     → sets (set d (at + (i - 1)) (x % 256)) at (bytesOf (i - 1) (x / 256)) ≡ sets d at (bytesOf i x)
-number-last d at zero x h = absurd (omega arith)
-number-last d at (suc j) x h = let less : suc j - 1 ≡ j = omega arith in rw less (sym (last-first d at j x))
+number-last = digit-last 256 (λ x. x % 256) bytesOf bytes-length bytes-more
 
--- a byte that has no room is left out
 pub number-last-out : (d : List ℕ) (at i x : ℕ) → 0 < i → length d ≤ at + (i - 1)
     → sets d at (bytesOf (i - 1) (x / 256)) ≡ sets d at (bytesOf i x)
-number-last-out d at i x h out =
-    ap (λ (l : List ℕ). sets l at (bytesOf (i - 1) (x / 256))) (sym (set-out d (at + (i - 1)) (x % 256) out)) ∙ number-last d at i x h
+number-last-out = digit-last-out 256 (λ x. x % 256) bytesOf bytes-length bytes-more
 
 pub number-ends : (d : List ℕ) (at i x : ℕ) → i ≤ 0 → sets d at (bytesOf i x) ≡ d
 unfolding bytesOf

@@ -8,7 +8,7 @@ use native.Mathlib.Numerals.{add-one}
 use native.Mathlib.Omega.{arith}
 use lib.Dec.{eqb, lit<}
 use lib.ListN.{length, getD, take, drop, length-take, length-drop, drop-of-length-le}
-use lib.Seq.{drop-cons, getD-drop, take-take, drop-drop, take-nil, drop-append-le, take-append-le, drop-append-add}
+use lib.Seq.{drop-cons, getD-drop, take-take, take-all, drop-drop, take-nil, drop-append-le, take-append-le, drop-append-add}
 use borrow.Author.Tests.{eq-eqb, ne-eqb, eqb-true}
 use Rattle.wire.specs.Field.{Bytes, part, same}
 
@@ -126,3 +126,9 @@ part-front xs ys o n h =
 
 pub part-back : (xs ys : List ℕ) (k o n : ℕ) → length xs ≡ k → part (xs ++ ys) (k + o) n ≡ part ys o n
 part-back xs ys k o n e = rw (← e) (ap (take n) (drop-append-add xs ys o))
+
+-- all that is left from a place on
+pub rest-read : (s r : List ℕ) (at : ℕ) → r ≡ part s at (length s) → r ≡ drop at s
+rest-read s r at e =
+    let short : length (drop at s) ≤ length s = rw (length-drop at s) (omega arith) in
+    e ∙ take-all (length s) (drop at s) short

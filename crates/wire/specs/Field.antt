@@ -38,6 +38,10 @@ numberOf s = numberFrom 0 s
 abbrev pub numberAt : List ℕ → ℕ → ℕ → ℕ
 numberAt s at n = numberOf (part s at n)
 
+-- what the count of a section takes, wherever records follow their count
+abbrev pub countWidth : ℕ
+countWidth = 4
+
 -- x in w bytes, highest first; what does not fit is dropped at the front
 unfoldable pub bytesOf : ℕ → ℕ → List ℕ
 bytesOf zero x = []

@@ -4,6 +4,9 @@ ghost use mathlib.Core.Path.{_≡_};
 ghost use Prim.Native.Nat.{_%_, _^_, min};
 ghost use Rattle.wire.specs.Field.{part, numberOf, numberAt};
 
+// What the count of a section takes.
+pub const COUNT_WIDTH: usize = 4;
+
 pub fn least(a: usize, b: usize) -> usize
     ensures { λ r. ⌜ r ≡ min a b ⌝ }
 {

@@ -1,5 +1,5 @@
 -- `frame::table_on` meets its contract. Assumes nothing.
-use Rattle.frame.proofs.Parts.{rest-read}
+use Rattle.wire.proofs.Texts.{rest-read}
 use borrow.Author.Needs.{needs}
 use Rattle.frame.proofs.table_on.Statement.{statement}
 use Rattle.frame.proofs.table_on.Tie as tie

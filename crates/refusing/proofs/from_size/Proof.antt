@@ -7,7 +7,6 @@ use Rattle.refusing.specs.Refusals.{mostBulks, mostMessages}
 use Rattle.refusing.specs.Refusals.{holds}
 use Rattle.refusing.specs.declared.Refusal.the-variants.{Size, Kind}
 use Rattle.refusing.proofs.Checking.{stops, goes-on, few-told}
-use borrow.Author.Needs.{needs}
 use Rattle.refusing.proofs.from_size.Statement.{statement}
 use Rattle.refusing.proofs.from_size.Tie as tie
 

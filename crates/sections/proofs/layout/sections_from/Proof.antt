@@ -1,5 +1,5 @@
 -- `sections::layout::sections_from` meets its contract. Assumes nothing.
-use Rattle.sections.proofs.Places.{rest-read}
+use Rattle.wire.proofs.Texts.{rest-read}
 use borrow.Author.Needs.{needs}
 use Rattle.sections.proofs.layout.sections_from.Statement.{statement}
 use Rattle.sections.proofs.layout.sections_from.Tie as tie
