@@ -52,7 +52,7 @@ pub(crate) fn put_padded(d: &mut [u8], at: usize, width: usize, words: &[u8]) {
 }
 
 // Adds an entry.
-pub(crate) fn put_entry(register: &mut [u8], identifier: &[u8], sender: &[u8], tag: u64) {
+pub(crate) fn put_entry(register: &mut [u8], sender: &[u8], identifier: &[u8], tag: u64) {
     let k = register::used(register) as usize;
     let at = 4 + ENTRY * k;
     writing::put_text(register, at, sender);

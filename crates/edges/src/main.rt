@@ -68,8 +68,8 @@ fn step(line: &[u8], model: &mut [u8], sheet: &[u8], register: &mut [u8]) {
         b'e' => writing::put_number(register, 0, 4, 0),
         b'u' => files::put_entry(
             register,
-            words::rest(line, 3),
             words::word(line, 2),
+            words::rest(line, 3),
             words::number(line, 1),
         ),
         b'j' => {

@@ -12,16 +12,16 @@ use lib.Seq.{take-all}
 use borrow.Author.Tests.{leb-true, eqb-true}
 use Rattle.wire.proofs.Texts.{part-short}
 use Rattle.wire.proofs.Sides.{le-or-lt}
-use Rattle.frame.specs.Frame.{mostPart, mostInput, lengthIn, fits, partIn, afterPart, tableOn, registerOn, sheetOn, inShape, tableIn, registerIn, sheetIn}
+use Rattle.frame.specs.Frame.{dateWidth, lengthWidth, mostPart, mostInput, lengthIn, fits, partIn, afterPart, tableOn, registerOn, sheetOn, inShape, tableIn, registerIn, sheetIn}
 use Rattle.frame.specs.Read.{Begins, ReadOf}
 
 -- ---- the parts
 
 length-fits : (s : List ℕ) → fits s ≡ true → lengthIn s ≤ mostPart
-length-fits s e = leb-true (lengthIn s) mostPart (and-eq-true-iff (leb (lengthIn s) mostPart) (leb (4 + lengthIn s) (length s)) .0 e .0)
+length-fits s e = leb-true (lengthIn s) mostPart (and-eq-true-iff (leb (lengthIn s) mostPart) (leb (lengthWidth + lengthIn s) (length s)) .0 e .0)
 
 part-fits : (s : List ℕ) → fits s ≡ true → length (partIn s) ≤ mostPart
-part-fits s e = le-trans (part-short s 4 (lengthIn s)) (length-fits s e)
+part-fits s e = le-trans (part-short s lengthWidth (lengthIn s)) (length-fits s e)
 
 -- all four tests hold
 pub record Shaped (input : List ℕ) : Type 0 where
@@ -61,10 +61,10 @@ module _ (input : List ℕ) (e : inShape input ≡ true) where
       let register = length-fits (registerOn input) (is .registerFits) in
       let sheet = length-fits (sheetOn input) (is .sheetFits) in
       let end = is .nothingMore in
-      let a = length-drop 4 input in
-      let b = length-drop (4 + lengthIn (tableOn input)) (tableOn input) in
-      let c = length-drop (4 + lengthIn (registerOn input)) (registerOn input) in
-      let d = length-drop (4 + lengthIn (sheetOn input)) (sheetOn input) in
+      let a = length-drop dateWidth input in
+      let b = length-drop (lengthWidth + lengthIn (tableOn input)) (tableOn input) in
+      let c = length-drop (lengthWidth + lengthIn (registerOn input)) (registerOn input) in
+      let d = length-drop (lengthWidth + lengthIn (sheetOn input)) (sheetOn input) in
       omega arith
 
 -- ---- longer input

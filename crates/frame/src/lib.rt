@@ -4,6 +4,10 @@ ghost use mathlib.Core.Path.{_≡_};
 ghost use Rattle.frame.specs.Frame.{fits, partIn, afterPart, tableOn, registerOn, sheetOn, inShape, dateIn, tableIn, registerIn, sheetIn};
 ghost use Rattle.frame.specs.Read.{ReadOf};
 
+const DATE_WIDTH: usize = 4;
+
+const LENGTH_WIDTH: usize = 4;
+
 // The longest part that is taken.
 pub const MOST_PART: usize = 16384;
 
@@ -22,28 +26,32 @@ fn fits(rest: &[u8]) -> bool
     ensures { λ r. ⌜ r ≡ fits (now (rest .entry)) ⌝ }
 {
     let length = wire::u32_at(rest, 0) as usize;
-    (length <= MOST_PART) & (4 + length <= rest.len())
+    (length <= MOST_PART) & (LENGTH_WIDTH + length <= rest.len())
 }
 
 // The part at the start of the input's rest.
 fn part_in(rest: &[u8]) -> &[u8]
     ensures { λ r. ⌜ now r ≡ partIn (now (rest .entry)) ⌝ }
 {
-    wire::text_at(rest, 4, wire::u32_at(rest, 0) as usize)
+    wire::text_at(rest, LENGTH_WIDTH, wire::u32_at(rest, 0) as usize)
 }
 
 // What follows that part.
 fn after_part(rest: &[u8]) -> &[u8]
     ensures { λ r. ⌜ now r ≡ afterPart (now (rest .entry)) ⌝ }
 {
-    wire::text_at(rest, 4 + wire::u32_at(rest, 0) as usize, rest.len())
+    wire::text_at(
+        rest,
+        LENGTH_WIDTH + wire::u32_at(rest, 0) as usize,
+        rest.len(),
+    )
 }
 
 // The input from each part on.
 fn table_on(input: &[u8]) -> &[u8]
     ensures { λ r. ⌜ now r ≡ tableOn (now (input .entry)) ⌝ }
 {
-    wire::text_at(input, 4, input.len())
+    wire::text_at(input, DATE_WIDTH, input.len())
 }
 
 fn register_on(input: &[u8]) -> &[u8]

@@ -10,7 +10,7 @@ pub number-is : (call : Call) → outcome call .number ≡ refusal call
 unfolding outcome
 number-is call = by-test (eqb (refusal call) 0) refl
   where
-    by-test : (t : Bool) → eqb (refusal call) 0 ≡ t → cond t (judgedOf call (judgement call)) (turnedAway (refusal call) call) .number ≡ refusal call
+    by-test : (t : Bool) → eqb (refusal call) 0 ≡ t → cond t (judgedOf call (judgement call)) (turnedAway call (refusal call)) .number ≡ refusal call
     by-test true e = sym (eqb-true (refusal call) 0 e)
     by-test false e = refl
 
@@ -18,6 +18,6 @@ pub outcome-judged : (call : Call) → refusal call ≡ 0 → outcome call ≡ j
 unfolding outcome
 outcome-judged call e = rw e
 
-pub outcome-refused : (call : Call) → (refusal call ≡ 0 → ⊥) → outcome call ≡ turnedAway (refusal call) call
+pub outcome-refused : (call : Call) → (refusal call ≡ 0 → ⊥) → outcome call ≡ turnedAway call (refusal call)
 unfolding outcome
 outcome-refused call e = rw (ne-eqb (refusal call) 0 e)

@@ -221,7 +221,7 @@ module _ (terms : Terms) (table sheet : List ℕ) (bulks : ℕ) (before : State)
                   (joined ∙ (rw (split, bulk-lines terms table (bulkAt sheet head at) _ (stateOf register positions), bulk-sections terms table (bulkAt sheet head at) _ (stateOf register positions)) at (left .written)));
             }
 
-    pub bulks-ended : bulks ≤ k → BulksTold terms table sheet bulks before report₀ register positions report
+    pub bulks-ended : bulks ≤ k → BulksTold terms sheet table bulks before report₀ register positions report
     unfolding judgeBulks
     bulks-ended h =
         let none = bulks-end sheet bulks k head at h in

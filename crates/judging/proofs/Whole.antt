@@ -57,7 +57,7 @@ module _ (call : Call) (checked : Checked) (contents : Contents) (e : checked �
   both-few = (let b = few .bulks in let m = few .messages in (omega arith, omega arith))
 
   module _ (counted register' positions' report' : List ℕ) (count : counted ≡ sets (call .report) 0 (bytesOf countWidth (contents .bulks)))
-      (judged : BulksTold (call .terms) (call .table) (call .sheet) (contents .bulks) (stateOf (call .register) (call .positions)) counted register' positions' report') where
+      (judged : BulksTold (call .terms) (call .sheet) (call .table) (contents .bulks) (stateOf (call .register) (call .positions)) counted register' positions' report') where
     whole-report : report' ≡ sets (call .report) 0 (bytesOf countWidth (contents .bulks) ++ judgement call .lines ++ judgement call .sections)
     whole-report =
         let m = passed .1 in

@@ -20,8 +20,8 @@ pub record Outcome : Type 0 where
   pub report : List ℕ
 
 -- a refusal changes no byte
-abbrev pub turnedAway : ℕ → Call → Outcome
-turnedAway n call =
+abbrev pub turnedAway : Call → ℕ → Outcome
+turnedAway call n =
     record { number = n; length = 0; register = call .register; positions = call .positions; report = call .report }
 
 -- the judgement of all the call's bulks
@@ -43,7 +43,7 @@ judgedOf call judged =
     }
 
 unfoldable pub outcome : Call → Outcome
-outcome call = cond (eqb (refusal call) 0) (judgedOf call (judgement call)) (turnedAway (refusal call) call)
+outcome call = cond (eqb (refusal call) 0) (judgedOf call (judgement call)) (turnedAway call (refusal call))
 
 -- ---- the number and the length for each case of the answer
 

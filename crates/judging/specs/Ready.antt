@@ -48,7 +48,7 @@ pub record BulksReady (sheet table positions report : List ℕ) (contents : Cont
   pub space : reportLength (contents .bulks) (contents .messages) ≤ length report
 
 -- the bulk lines after the count, the sections after the bulk lines
-pub record BulksTold (terms : Terms) (table sheet : List ℕ) (bulks : ℕ) (before : State) (report register' positions' report' : List ℕ) : Type 0 where
+pub record BulksTold (terms : Terms) (sheet table : List ℕ) (bulks : ℕ) (before : State) (report register' positions' report' : List ℕ) : Type 0 where
   pub register : register' ≡ judgeBulks terms table (bulksOf sheet) before .after .register
   pub positions : positions' ≡ judgeBulks terms table (bulksOf sheet) before .after .positions
   pub written : report'

@@ -112,7 +112,7 @@ pub(crate) fn judge_bulks(
     contents: Contents,
 )
     requires { ⌜ BulksReady (now sheet) (now table) (now positions) (now report) contents ⌝ }
-    ensures { λ _. ⌜ BulksTold terms (now (table .entry)) (now (sheet .entry)) (contents .bulks) (stateOf (now (register .entry)) (now (positions .entry))) (now (report .entry)) (now (register .exit)) (now (positions .exit)) (now (report .exit)) ⌝ }
+    ensures { λ _. ⌜ BulksTold terms (now (sheet .entry)) (now (table .entry)) (contents .bulks) (stateOf (now (register .entry)) (now (positions .entry))) (now (report .entry)) (now (register .exit)) (now (positions .exit)) (now (report .exit)) ⌝ }
 {
     let bulks = contents.bulks;
     let mut walk = Walk::start(sheet);

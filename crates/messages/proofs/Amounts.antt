@@ -54,7 +54,7 @@ pub record SumLeft (kind : ℕ) (sheet : List ℕ) (at n so-far place j : ℕ) :
   pub low : j ≤ n
   pub here : place ≡ at + messageWidth kind * j
   pub bounded : so-far ≤ j * 2 ^ 64
-  pub total : so-far + sumOf (recordsAt (messageWidth kind) sheet (n - j) place) ≡ sumOf (recordsAt (messageWidth kind) sheet n at)
+  pub total : so-far + sumOf (recordsAt sheet (messageWidth kind) (n - j) place) ≡ sumOf (recordsAt sheet (messageWidth kind) n at)
 
 module _ (kind : ℕ) (sheet : List ℕ) (at n : ℕ) where
   pub sum-start : SumLeft kind sheet at n 0 at 0
@@ -73,7 +73,7 @@ module _ (kind : ℕ) (sheet : List ℕ) (at n : ℕ) where
     pub sum-room : SectionReady sheet kind (record { at = at; number = n }) → j < n → so-far + 2 ^ 64 ≤ 2 ^ 127
     sum-room ready h = let few = ready .few in room j so-far (omega arith) (left .bounded)
 
-    pub sum-more : j < n → (next amount after : ℕ) → amount ≡ amountOf (messageAt kind sheet place) → amount < 2 ^ 64
+    pub sum-more : j < n → (next amount after : ℕ) → amount ≡ amountOf (messageAt sheet kind place) → amount < 2 ^ 64
         → next ≡ so-far + amount → after ≡ place + messageWidth kind → SumLeft kind sheet at n next after (j + 1)
     unfolding sumOf
     sum-more h next amount after ea below en ep =
@@ -85,6 +85,6 @@ module _ (kind : ℕ) (sheet : List ℕ) (at n : ℕ) where
           total = rw (ep, en, ea) (omega (arith, split));
         }
 
-    pub sum-ends : n ≤ j → so-far ≡ sumOf (recordsAt (messageWidth kind) sheet n at)
+    pub sum-ends : n ≤ j → so-far ≡ sumOf (recordsAt sheet (messageWidth kind) n at)
     unfolding sumOf
     sum-ends h = sym (add-zero so-far) ∙ (rw (records-end (messageWidth kind) sheet n j place h) at (left .total))

@@ -32,12 +32,12 @@ module _ (terms : Terms) (table header : List ℕ) (fallen : Bool) (kind : ℕ) 
     pub registerWide : length register ≡ length (before .register)
     pub positionsWide : length positions ≡ length (before .positions)
     pub outWide : length out ≡ length out₀
-    pub after : judgeMessages terms table header fallen (recordsAt (messageWidth kind) sheet (n - j) place) (stateOf register positions) .after
-        ≡ judgeMessages terms table header fallen (recordsAt (messageWidth kind) sheet n at) before .after
-    pub lines : sets out (messageLineWidth * j) (judgeMessages terms table header fallen (recordsAt (messageWidth kind) sheet (n - j) place) (stateOf register positions) .lines)
-        ≡ sets out₀ 0 (judgeMessages terms table header fallen (recordsAt (messageWidth kind) sheet n at) before .lines)
-    pub totals : plus t (judgeMessages terms table header fallen (recordsAt (messageWidth kind) sheet (n - j) place) (stateOf register positions) .totals)
-        ≡ judgeMessages terms table header fallen (recordsAt (messageWidth kind) sheet n at) before .totals
+    pub after : judgeMessages terms table header fallen (recordsAt sheet (messageWidth kind) (n - j) place) (stateOf register positions) .after
+        ≡ judgeMessages terms table header fallen (recordsAt sheet (messageWidth kind) n at) before .after
+    pub lines : sets out (messageLineWidth * j) (judgeMessages terms table header fallen (recordsAt sheet (messageWidth kind) (n - j) place) (stateOf register positions) .lines)
+        ≡ sets out₀ 0 (judgeMessages terms table header fallen (recordsAt sheet (messageWidth kind) n at) before .lines)
+    pub totals : plus t (judgeMessages terms table header fallen (recordsAt sheet (messageWidth kind) (n - j) place) (stateOf register positions) .totals)
+        ≡ judgeMessages terms table header fallen (recordsAt sheet (messageWidth kind) n at) before .totals
 
   pub messages-start : (t : Totals) → t ≡ nothing → MessagesLeft (before .register) (before .positions) out₀ t at 0
   messages-start t none =
@@ -71,30 +71,30 @@ module _ (terms : Terms) (table header : List ℕ) (fallen : Bool) (kind : ℕ) 
     either-within false amount word = within-rejected j t amount word (left .within)
 
     module _ (ready : SectionReady sheet kind (record { at = at; number = n })) (h : j < n) (register' positions' out' : List ℕ) (accepted : Bool)
-        (told : MessageTold terms table header fallen (messageAt kind sheet place) (stateOf register positions) (messageLineWidth * j) out register' positions' out' accepted)
+        (told : MessageTold terms table header fallen (messageAt sheet kind place) (stateOf register positions) (messageLineWidth * j) out register' positions' out' accepted)
         (rw' : length register' ≡ length register) (pw' : length positions' ≡ length positions) (ow' : length out' ≡ length out)
-        (amount : ℕ) (ea : amount ≡ amountOf (messageAt kind sheet place)) (word : amount < 2 ^ 64)
+        (amount : ℕ) (ea : amount ≡ amountOf (messageAt sheet kind place)) (word : amount < 2 ^ 64)
         (t' : Totals) (et : t' ≡ cond accepted (withAccepted t amount) (withRejected t amount))
         (place' : ℕ) (ep : place' ≡ place + messageWidth kind) where
       m : List ℕ
-      m = messageAt kind sheet place
+      m = messageAt sheet kind place
 
       ms : List (List ℕ)
-      ms = recordsAt (messageWidth kind) sheet (n - (j + 1)) (place + messageWidth kind)
+      ms = recordsAt sheet (messageWidth kind) (n - (j + 1)) (place + messageWidth kind)
 
-      split : recordsAt (messageWidth kind) sheet (n - j) place ≡ messageAt kind sheet place ∷ recordsAt (messageWidth kind) sheet (n - (j + 1)) (place + messageWidth kind)
+      split : recordsAt sheet (messageWidth kind) (n - j) place ≡ messageAt sheet kind place ∷ recordsAt sheet (messageWidth kind) (n - (j + 1)) (place + messageWidth kind)
       split = records-step (messageWidth kind) sheet n j place h
 
-      state-next : stateOf register' positions' ≡ afterMessage terms table header fallen (messageAt kind sheet place) (stateOf register positions)
+      state-next : stateOf register' positions' ≡ afterMessage terms table header fallen (messageAt sheet kind place) (stateOf register positions)
       state-next = λ i. record { register = told .register i; positions = told .positions i }
 
-      line-long : length (lineOf terms table header fallen (messageAt kind sheet place) (stateOf register positions)) ≡ messageLineWidth
-      line-long = line-wide terms table header fallen kind (messageAt kind sheet place) (stateOf register positions) (message-width kind sheet place (message-within ready h))
+      line-long : length (lineOf terms table header fallen (messageAt sheet kind place) (stateOf register positions)) ≡ messageLineWidth
+      line-long = line-wide terms table header fallen kind (messageAt sheet kind place) (stateOf register positions) (message-width kind sheet place (message-within ready h))
 
       next-line : messageLineWidth * (j + 1) ≡ messageLineWidth * j + messageLineWidth
       next-line = omega arith
 
-      counted-next : t' ≡ counted terms table header fallen (messageAt kind sheet place) (stateOf register positions) t
+      counted-next : t' ≡ counted terms table header fallen (messageAt sheet kind place) (stateOf register positions) t
       unfolding counted
       counted-next = et ∙ (rw (told .verdict, ea))
 
@@ -118,7 +118,7 @@ module _ (terms : Terms) (table header : List ℕ) (fallen : Bool) (kind : ℕ) 
           }
 
     pub messages-end : n ≤ j → (tally : Tally) → totalsOf tally ≡ t
-        → MessagesTold terms table header fallen (recordsAt (messageWidth kind) sheet n at) before out₀ register positions out tally
+        → MessagesTold terms table header fallen (recordsAt sheet (messageWidth kind) n at) before out₀ register positions out tally
     unfolding judgeMessages
     messages-end h tally et =
         let none = records-end (messageWidth kind) sheet n j place h in

@@ -29,7 +29,7 @@ stateOf register positions = record { register = register; positions = positions
 
 -- the messages of a section, of a kind
 abbrev pub messagesOf : List ℕ → ℕ → Section → List (List ℕ)
-messagesOf sheet kind section = recordsAt (messageWidth kind) sheet (section .number) (section .at)
+messagesOf sheet kind section = recordsAt sheet (messageWidth kind) (section .number) (section .at)
 
 -- ---- a section of messages lies in the sheet, and is no longer than a tally may count
 

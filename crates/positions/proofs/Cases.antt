@@ -1,13 +1,14 @@
 -- Positions tried on cases of their reading, of room and of amounts moved: each table one statement. Assumes nothing.
 use mathlib.Core.Path.{_≡_, refl}
 use mathlib.Core.Bool.{Bool, true, false}
-use mathlib.Core.List.{List, [], _∷_, _++_, map}
+use mathlib.Core.List.{List, [], _∷_, map}
 use Prim.Native.Nat.{ℕ, _+_, _-_, _^_}
 use lib.ListN.{replicate}
 use lib.IntN.{ℤ, pos, negsuc}
-use Rattle.wire.specs.Field.{bytesOf, numberFrom}
-use Rattle.wire.specs.Places.{everyFrom}
+use Rattle.wire.specs.Field.{bytesOf}
+use Rattle.wire.specs.Written.{joined}
 use Rattle.positions.specs.Positions.{fits, negative, signed, magnitude, roomForAll, gains, loses}
+use Rattle.positions.proofs.Computing.{positionsCompute}
 
 -- ---- the reading: 64 bits, the whole number, whether it is below 0, what it lies away from it
 
@@ -48,8 +49,7 @@ minus : ℕ → ℕ
 minus n = 2 ^ 64 - n
 
 rows : List ℕ → List ℕ
-rows [] = []
-rows (x ∷ xs) = bytesOf 8 x ++ rows xs
+rows held = joined (map (bytesOf 8) held)
 
 record Asked : Type 0 where
   held : List ℕ
@@ -85,7 +85,7 @@ rooms =
     ∷ []
 
 roomsRight : map (λ q. roomForAll (rows (q .held)) (q .cents)) rooms ≡ map (λ q. q .room) rooms
-unfolding rooms asked minus rows roomForAll everyFrom numberFrom bytesOf
+unfolding positionsCompute rooms asked minus rows
 roomsRight = refl
 
 -- ---- an amount moved, of the second of three rows: what it holds, the cents, what it then holds if it gains them, if it loses them
@@ -118,5 +118,5 @@ moves =
 movesRight : (map (λ q. gains (three (q .held)) 1 (q .cents)) moves ≡ map (λ q. three (q .gained)) moves)
     × (map (λ q. loses (three (q .held)) 1 (q .cents)) moves ≡ map (λ q. three (q .lost)) moves)
     × (map (λ q. gains (loses (three (q .held)) 1 (q .cents)) 1 (q .cents)) moves ≡ map (λ q. three (q .held)) moves)
-unfolding moves move three minus rows gains loses numberFrom bytesOf
+unfolding positionsCompute moves move three minus rows
 movesRight = (refl, refl, refl)

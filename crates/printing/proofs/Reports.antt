@@ -39,9 +39,9 @@ section-read : (terms : Terms) (table sheet : List ℕ) (head at : ℕ) (before 
 unfolding sectionOf
 section-read terms table sheet head at before xs bytes =
     let n = countAt sheet at in
-    let counted : length (recordsAt (widthAt sheet head) sheet n (at + countWidth)) ≡ n = records-length (widthAt sheet head) sheet n (at + countWidth) in
+    let counted : length (recordsAt sheet (widthAt sheet head) n (at + countWidth)) ≡ n = records-length (widthAt sheet head) sheet n (at + countWidth) in
     let lines = messagesJudged terms table (bulkAt sheet head at) before .lines in
-    ap countIn (append-assoc (bytesOf countWidth (length (recordsAt (widthAt sheet head) sheet n (at + countWidth)))) lines xs)
+    ap countIn (append-assoc (bytesOf countWidth (length (recordsAt sheet (widthAt sheet head) n (at + countWidth)))) lines xs)
     ∙ ap (λ (k : ℕ). countIn (bytesOf countWidth k ++ (lines ++ xs))) counted
     ∙ count-read n (lines ++ xs) (number-small sheet at countWidth bytes)
 

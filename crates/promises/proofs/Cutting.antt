@@ -89,7 +89,7 @@ module _ (call : Call) (clear : Clear call) (k : ℕ) (h : k ≤ bulkCount (call
   order-is : (mixed false (headers (bulksOf one)) ≡ false) × (mixed false (headers (bulksOf two)) ≡ false)
   order-is = order-parts false (headers (bulksOf one)) (headers (bulksOf two)) (rw (← (map-append (λ (x : Bulk). x .header) (bulksOf one) (bulksOf two)), ← bulks-are) (clear .order))
 
-  module _ (bytes : InBytes call) (space space' : List ℕ) (enough : Enough space one) (enough' : Enough space' two) where
+  module _ (bytes : InBytes call) (space space' : List ℕ) (enough : Enough one space) (enough' : Enough two space') where
     abbrev before : State
     before = record { register = call .register; positions = call .positions }
 
@@ -108,7 +108,7 @@ module _ (call : Call) (clear : Clear call) (k : ℕ) (h : k ≤ bulkCount (call
     -- a part of the file is not refused, on a state that has room for it
     part-clear : (t : List ℕ) (st : State) (space : List ℕ) → whole t ≡ true → bulkCount t ≤ b → messageCount t ≤ messageCount s
         → kindsKnown (headers (bulksOf t)) ≡ true → mixed false (headers (bulksOf t)) ≡ false
-        → Fit (call .terms) (call .table) st (bulkCount t + messageCount t) (messageCount t) → Enough space t
+        → Fit (call .terms) (call .table) st (bulkCount t + messageCount t) (messageCount t) → Enough t space
         → Clear (record { terms = call .terms; sheet = t; table = call .table; register = st .register; positions = st .positions; report = space })
     part-clear t st space ended fewer fewer' known ordered fit enough =
         let fb = clear .fewBulks in

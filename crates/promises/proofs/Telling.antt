@@ -50,11 +50,11 @@ Small [] = Unit {0}
 Small (b ∷ bs) = (sumOf (b .messages) ≤ length (b .messages) * 2 ^ 64) × Small bs
 
 small-messages : (kind : ℕ) (s : List ℕ) (n at : ℕ) → Bytes s
-    → sumOf (recordsAt (messageWidth kind) s n at) ≤ length (recordsAt (messageWidth kind) s n at) * 2 ^ 64
+    → sumOf (recordsAt s (messageWidth kind) n at) ≤ length (recordsAt s (messageWidth kind) n at) * 2 ^ 64
 unfolding recordsAt sumOf
 small-messages kind s zero at bytes = omega arith
 small-messages kind s (suc n) at bytes =
-    let first = amount-word kind s at (amountOf (messageAt kind s at)) bytes refl in
+    let first = amount-word kind s at (amountOf (messageAt s kind at)) bytes refl in
     let rest = small-messages kind s n (at + messageWidth kind) bytes in
     omega arith
 

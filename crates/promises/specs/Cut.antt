@@ -55,9 +55,9 @@ secondCall call k left space =
       report = space;
     }
 
--- the space is enough for a report on the sheet
+-- a report on the sheet fits into the space
 abbrev pub Enough : List ℕ → List ℕ → Type 0
-Enough space sheet = reportLength (bulkCount sheet) (messageCount sheet) ≤ length space
+Enough sheet space = reportLength (bulkCount sheet) (messageCount sheet) ≤ length space
 
 -- ---- what holds
 
@@ -75,5 +75,5 @@ abbrev pub CutsAnywhere : Judge → Type 0
 CutsAnywhere judge =
     (call : Call) → InBytes call → refusal call ≡ 0
     → (k : ℕ) → k ≤ bulkCount (call .sheet)
-    → (space space' : List ℕ) → Enough space (firstPart (call .sheet) k) → Enough space' (secondPart (call .sheet) k)
+    → (space space' : List ℕ) → Enough (firstPart (call .sheet) k) space → Enough (secondPart (call .sheet) k) space'
     → let first = judge (firstCall call k space) in PartsMakeTheWhole (judge call) first (judge (secondCall call k first space'))

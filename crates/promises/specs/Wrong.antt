@@ -50,7 +50,7 @@ firstMessage call = getD (firstBulk call .messages) 0 []
 -- ---- of the first demand
 
 abbrev pub refusesAll : Judge
-refusesAll call = turnedAway 1 call
+refusesAll call = turnedAway call 1
 
 -- a refusal that sets the report's first byte
 abbrev pub writesOnRefusal : Judge

@@ -8,9 +8,10 @@ use native.Mathlib.Omega.{arith}
 use lib.Dec.{leb}
 use lib.ListN.{length, take, replicate, length-replicate}
 use borrow.Author.Tests.{le-leb, eq-eqb}
-use Rattle.wire.specs.Field.{text, bytesOf, numberFrom, same}
-use Rattle.wire.specs.Places.{firstFrom}
-use Rattle.register.specs.Register.{identifierWidth, keyWidth, key, entryWidth, entry, messageTag, bulkTag, mostEntries, usedWidth, wellFormed, entriesTo, keysOf, search, stands, add}
+use Rattle.wire.specs.Field.{text, bytesOf}
+use Rattle.wire.specs.Written.{padded, joined}
+use Rattle.register.specs.Register.{identifierWidth, keyWidth, key, entryWidth, entry, messageTag, bulkTag, mostEntries, usedWidth, wellFormed, keysOf, stands, add}
+use Rattle.register.proofs.Computing.{registerComputes}
 
 -- ---- the form: so many bytes, the first four of which say so many are used
 
@@ -44,7 +45,7 @@ forms =
     ∷ []
 
 formsRight : map (λ q. wellFormed (take (q .bytes) (bytesOf 4 (q .used) ++ replicate 88 7))) forms ≡ map (λ q. q .good) forms
-unfolding forms form bytesOf wellFormed numberFrom
+unfolding registerComputes forms form
 formsRight = refl
 
 -- the most entries, and one more: too long to write out, so by their number
@@ -52,7 +53,7 @@ spacious : ℕ → List ℕ
 spacious n = bytesOf 4 0 ++ replicate (entryWidth * n) 7
 
 spacious-formed : (n : ℕ) → wellFormed (spacious n) ≡ leb n mostEntries
-unfolding wellFormed spacious bytesOf numberFrom
+unfolding registerComputes spacious
 spacious-formed n =
     let long : length (spacious n) ≡ usedWidth + entryWidth * n = omega (arith, length-replicate {A = ℕ} (entryWidth * n) 7) in
     let count : (usedWidth + entryWidth * n - usedWidth) / entryWidth ≡ n = omega arith in
@@ -65,15 +66,11 @@ mostRight = (spacious-formed 60000, spacious-formed 60001)
 -- ---- the search: of four places the first three are used
 
 named : String → String → ℕ → List ℕ
-named sender identifier tag = key (text sender) (text identifier ++ replicate (identifierWidth - length (text identifier)) 32) tag
-
-joined : List (List ℕ) → List ℕ
-joined [] = []
-joined (k ∷ ks) = entry k ++ joined ks
+named sender identifier tag = key (text sender) (padded identifierWidth identifier) tag
 
 -- the entries in use, and those that stand past them, told by their keys
 registerOf : List (List ℕ) → List (List ℕ) → List ℕ
-registerOf ks rest = bytesOf usedWidth (length ks) ++ joined ks ++ joined rest
+registerOf ks rest = bytesOf usedWidth (length ks) ++ joined (map entry (ks ++ rest))
 
 used : List (List ℕ)
 used = named "AAAALV22" "T1" messageTag ∷ named "BBBBLV22" "T2" messageTag ∷ named "AAAALV22" "D1" bulkTag ∷ []
@@ -107,16 +104,16 @@ searches =
     ∷ []
 
 searchesRight : map (λ q. stands (registerOf used (past ∷ [])) (q .looked)) searches ≡ map (λ q. q .found) searches
-unfolding searches look used past registerOf joined named entry bytesOf stands search firstFrom numberFrom same
+unfolding registerComputes searches look used past registerOf named
 searchesRight = refl
 
 keysRight : keysOf (registerOf used (past ∷ [])) ≡ used
-unfolding used past registerOf joined named entry bytesOf entriesTo numberFrom
+unfolding registerComputes used past registerOf named
 keysRight = refl
 
 -- ---- adding: over what stood past the number used, and at the last place
 
 addedRight : map (λ r. add r past) (registerOf [] (past ∷ past ∷ []) ∷ registerOf used (replicate keyWidth 7 ∷ []) ∷ registerOf used (replicate keyWidth 7 ∷ past ∷ []) ∷ [])
     ≡ registerOf (past ∷ []) (past ∷ []) ∷ registerOf (used ++ (past ∷ [])) [] ∷ registerOf (used ++ (past ∷ [])) (past ∷ []) ∷ []
-unfolding used past registerOf joined named entry bytesOf add numberFrom
+unfolding registerComputes used past registerOf named
 addedRight = refl

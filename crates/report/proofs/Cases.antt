@@ -5,13 +5,13 @@ use mathlib.Core.List.{List, [], _∷_, _++_, map}
 use Prim.Native.Nat.{ℕ, _+_, _^_, _-_}
 use Prim.Native.String.{String}
 use lib.ListN.{replicate, drop}
-use Rattle.wire.specs.Field.{text, bytesOf}
+use Rattle.wire.specs.Written.{padded}
 use Rattle.tally.specs.Tally.{Totals, nothing, withAccepted, withRejected}
-use Rattle.report.specs.Line.{messageLineWidth, bulkLine, messageLine, reportLength}
+use Rattle.report.specs.Line.{bulkLine, messageLine, reportLength}
+use Rattle.report.proofs.Computing.{linesCompute}
 
--- two characters and the spaces that pad them
 named : String → List ℕ
-named t = text t ++ replicate 33 32
+named t = padded 35 t
 
 -- T1 of 100 cents was accepted, T2 of 200 and the second T1 of 300 were not
 whole : Totals
@@ -49,5 +49,5 @@ cases =
     ∷ []
 
 casesRight : map (λ c. c .made) cases ≡ map (λ c. c .bytes) cases
-unfolding cases same huge whole named messageLineWidth bulkLine messageLine bytesOf
+unfolding linesCompute cases same huge whole named
 casesRight = refl

@@ -4,18 +4,13 @@ use mathlib.Core.List.{List, [], _∷_, _++_, map}
 use Prim.Native.Nat.{ℕ}
 use Prim.Native.String.{String}
 use lib.ListN.{length}
-use Rattle.wire.specs.Field.{text, bytesOf, numberFrom, same}
-use Rattle.wire.specs.Places.{firstFrom, everyFrom}
-use Rattle.calendar.specs.Date.{isDate, daysIn, leap}
-use Rattle.routing.specs.Table.{wellFormed, kindsKnown}
-use Rattle.routing.specs.Lookup.{Routed, refused, rowOf, route, lookup}
+use Rattle.wire.specs.Field.{text, bytesOf}
+use Rattle.wire.specs.Written.{joined}
+use Rattle.routing.specs.Lookup.{Routed, refused, lookup}
+use Rattle.routing.proofs.Computing.{lookupComputes}
 
 row : String → ℕ → ℕ → ℕ → List ℕ
 row bic first last kind = text bic ++ bytesOf 4 first ++ bytesOf 4 last ++ bytesOf 1 kind
-
-joined : List (List ℕ) → List ℕ
-joined [] = []
-joined (x ∷ xs) = x ++ joined xs
 
 tableOf : List (List ℕ) → List ℕ
 tableOf rs = bytesOf 4 (length rs) ++ joined rs
@@ -96,5 +91,5 @@ questions =
     ∷ []
 
 questionsRight : map (λ q. lookup (q .date) (q .table) (q .bic)) questions ≡ map (λ q. q .answer) questions
-unfolding questions on with bank tableOf joined row missing rowIs bytesOf lookup isDate daysIn leap wellFormed kindsKnown route rowOf firstFrom everyFrom numberFrom same
+unfolding lookupComputes questions on with bank tableOf row missing rowIs
 questionsRight = refl

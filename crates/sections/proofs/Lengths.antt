@@ -7,9 +7,9 @@ use lib.ListN.{length, take, drop, length-append}
 use Rattle.wire.specs.Field.{Bytes}
 use Rattle.wire.proofs.Numbers.{number-small}
 use Rattle.wire.proofs.Texts.{take-bytes, drop-bytes}
-use Rattle.report.specs.Line.{bulkLineWidth, messageLineWidth}
-use Rattle.positions.specs.Positions.{positionWidth, rows, positionAt}
-use Rattle.register.specs.Register.{used}
+use Rattle.report.specs.Line.{countWidth, bulkLineWidth, messageLineWidth}
+use Rattle.positions.specs.Positions.{positionWidth, positionPlace, rows, positionAt}
+use Rattle.register.specs.Register.{usedWidth, used}
 use Rattle.lines.specs.Lines.{messageText}
 use Rattle.lines.proofs.Lengths.{bulk-short, message-short}
 use Rattle.figures.specs.Figures.{positionText, usedText}
@@ -21,7 +21,7 @@ use Rattle.sections.specs.Sections.{messagesText, bulksText, positionsFr
 
 pub used-short : (register : List ℕ) → Bytes register → length (usedText (used register)) ≤ 13
 used-short register bytes =
-    let small = number-small register 0 4 bytes in
+    let small = number-small register 0 usedWidth bytes in
     number-line-short 9 _ (used register) (omega arith)
 
 -- ---- positions
@@ -30,7 +30,7 @@ positions-short : (positions : List ℕ) (n i : ℕ) → Bytes positions → i +
 unfolding positionsFrom
 positions-short positions zero i bytes few = lit≤ tt
 positions-short positions (suc n) i bytes few =
-    let first = position-short i (positionAt positions i) (omega arith) (number-small positions (positionWidth * i) 8 bytes) in
+    let first = position-short i (positionAt positions i) (omega arith) (number-small positions (positionPlace i) positionWidth bytes) in
     let rest = positions-short positions n (suc i) bytes (omega arith) in
     rw (length-append (positionText i (positionAt positions i)) (positionsFrom positions n (suc i))) (omega arith)
 
@@ -61,6 +61,6 @@ unfolding bulksText messagesRead
 bulks-short zero lines sections hl hs = lit≤ tt
 bulks-short (suc n) lines sections hl hs =
     let first = bulk-short (take bulkLineWidth lines) (take-bytes bulkLineWidth lines hl) in
-    let own = messages-short (countIn sections) (afterCount sections) (drop-bytes 4 sections hs) in
-    let rest = bulks-short n (drop bulkLineWidth lines) (laterSections sections) (drop-bytes bulkLineWidth lines hl) (drop-bytes (4 + messageLineWidth * countIn sections) sections hs) in
+    let own = messages-short (countIn sections) (afterCount sections) (drop-bytes countWidth sections hs) in
+    let rest = bulks-short n (drop bulkLineWidth lines) (laterSections sections) (drop-bytes bulkLineWidth lines hl) (drop-bytes (countWidth + messageLineWidth * countIn sections) sections hs) in
     simp length-append (omega arith)

@@ -8,7 +8,7 @@ use lib.ListN.{length, drop, drop-of-length-le}
 use lib.Seq.{drop-drop}
 use Rattle.wire.specs.Field.{numberAt}
 use Rattle.wire.proofs.Sides.{le-or-lt}
-use Rattle.report.specs.Line.{messageLineWidth}
+use Rattle.report.specs.Line.{countWidth, messageLineWidth}
 use Rattle.sections.specs.Layout.{laterSections}
 
 drop-clipped : (s : List ℕ) (at : ℕ) → drop (min at (length s)) s ≡ drop at s
@@ -21,9 +21,9 @@ drop-clipped s at = ⊎-elim
     (le-or-lt at (length s))
 
 -- the place after a section, no further than the end
-pub section-after : (report : List ℕ) (place n next : ℕ) → n ≡ numberAt report place 4
-    → next ≡ min (place + (4 + messageLineWidth * n)) (length report) → drop next report ≡ laterSections (drop place report)
+pub section-after : (report : List ℕ) (place n next : ℕ) → n ≡ numberAt report place countWidth
+    → next ≡ min (place + (countWidth + messageLineWidth * n)) (length report) → drop next report ≡ laterSections (drop place report)
 section-after report place n next is e =
     rw (e, is)
-    (drop-clipped report (place + (4 + messageLineWidth * numberAt report place 4))
-    ∙ sym (drop-drop (4 + messageLineWidth * numberAt report place 4) place report))
+    (drop-clipped report (place + (countWidth + messageLineWidth * numberAt report place countWidth))
+    ∙ sym (drop-drop (countWidth + messageLineWidth * numberAt report place countWidth) place report))

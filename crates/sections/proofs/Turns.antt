@@ -7,7 +7,7 @@ use native.Mathlib.Omega.{arith}
 use lib.ListN.{take, drop}
 use lib.Seq.{drop-drop}
 use Rattle.wire.specs.Field.{part}
-use Rattle.report.specs.Line.{countWidth, bulkLineWidth, messageLineWidth, bulkLineAt, messageLineAt, sectionsPlace}
+use Rattle.report.specs.Line.{countWidth, countWidth, bulkLineWidth, messageLineWidth, bulkLineAt, messageLineAt, sectionsPlace}
 use Rattle.positions.specs.Positions.{rows, positionAt}
 use Rattle.register.specs.Register.{used}
 use Rattle.lines.specs.Lines.{messageText, bulkText}
@@ -70,7 +70,7 @@ module _ (report : List ℕ) (b i place : ℕ) (here : drop place report ≡ sec
       ≡ bulksText (i + 1) (afterCount report) (drop (sectionsPlace b) report)
   report-turn line section cut rest =
       let all : section ≡ sectionsAfter i (drop (sectionsPlace b) report) = rest ∙ here in
-      rw (cut, ← (drop-drop (bulkLineWidth * i) 4 report), all) (bulks-more i (afterCount report) (drop (sectionsPlace b) report))
+      rw (cut, ← (drop-drop (bulkLineWidth * i) countWidth report), all) (bulks-more i (afterCount report) (drop (sectionsPlace b) report))
 
   pub report-place : (next : ℕ) → drop next report ≡ laterSections (drop place report)
       → drop next report ≡ sectionsAfter (i + 1) (drop (sectionsPlace b) report)

@@ -14,7 +14,7 @@ use Rattle.sheet.proofs.Laws.{end-forward}
 
 -- ---- two sheets that agree
 
-records-agree : (w : ℕ) (s t : List ℕ) (n a b : ℕ) → ((o : ℕ) → o + w ≤ w * n → part s (a + o) w ≡ part t (b + o) w) → recordsAt w s n a ≡ recordsAt w t n b
+records-agree : (w : ℕ) (s t : List ℕ) (n a b : ℕ) → ((o : ℕ) → o + w ≤ w * n → part s (a + o) w ≡ part t (b + o) w) → recordsAt s w n a ≡ recordsAt t w n b
 unfolding recordsAt
 records-agree w s t zero a b agree = refl
 records-agree w s t (suc n) a b agree =
@@ -50,11 +50,11 @@ module _ (s t : List ℕ) where
         ap numberOf (
         ap (λ (a : ℕ). part s a countWidth) (sym (add-zero ats)) ∙ bs 0 countWidth (omega arith) ∙ ap (λ (a : ℕ). part t a countWidth) (add-zero att))
 
-    same-messages : recordsAt width s (countAt s ats) (ats + countWidth) ≡ recordsAt (widthAt t headt) t (countAt t att) (att + countWidth)
+    same-messages : recordsAt s width (countAt s ats) (ats + countWidth) ≡ recordsAt t (widthAt t headt) (countAt t att) (att + countWidth)
     same-messages =
         records-agree width s t (countAt s ats) (ats + countWidth) (att + countWidth)
         (λ o h. ap (λ (a : ℕ). part s a width) (add-assoc ats countWidth o) ∙ bs (countWidth + o) width (omega arith) ∙ ap (λ (a : ℕ). part t a width) (sym (add-assoc att countWidth o)))
-        ∙ ap₂ (λ (w c : ℕ). recordsAt w t c (att + countWidth)) same-width same-count
+        ∙ ap₂ (λ (w c : ℕ). recordsAt t w c (att + countWidth)) same-width same-count
 
     same-after : SameBytes (k - (countWidth + width * countAt s ats)) (afterMessages s heads ats) (afterMessages t headt att)
     same-after o n h =
@@ -147,7 +147,7 @@ BulksWide [] = Unit {0}
 BulksWide (b ∷ bs) = BulkWide b × BulksWide bs
 
 module _ (s : List ℕ) where
-  records-wide : (kind n at : ℕ) → at + messageWidth kind * n ≤ length s → MessagesWide kind (recordsAt (messageWidth kind) s n at)
+  records-wide : (kind n at : ℕ) → at + messageWidth kind * n ≤ length s → MessagesWide kind (recordsAt s (messageWidth kind) n at)
   unfolding recordsAt MessagesWide
   records-wide kind zero at h = tt
   records-wide kind (suc n) at h = (part-length s at (messageWidth kind) (omega arith), records-wide kind n (at + messageWidth kind) (omega arith))

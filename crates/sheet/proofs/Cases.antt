@@ -6,14 +6,13 @@ use mathlib.Core.List.{List, [], _∷_, _++_, map}
 use mathlib.Core.Option.{Option, none, some}
 use Prim.Native.Nat.{ℕ}
 use Prim.Native.String.{String}
-use lib.ListN.{take, replicate}
-use Rattle.wire.specs.Field.{text, bytesOf, numberFrom}
-use Rattle.sheet.specs.Sheet.{kindOf, bulkIdentifierOf, senderOf, statedNumberOf, statedSumOf, valueDateOf, marksOf, identifierOf, receiverOf, amountOf, originalOf, reasonOf, nameOf, messageWidth, recordsAt, bulkCount, bulksFrom, bulksOf, endFrom, messagesFrom, whole, shape, headersOf, kindsKnown, mixed}
+use lib.ListN.{take}
+use Rattle.wire.specs.Field.{text, bytesOf}
+use Rattle.wire.specs.Written.{padded}
+use Rattle.sheet.specs.Sheet.{kindOf, bulkIdentifierOf, senderOf, statedNumberOf, statedSumOf, valueDateOf, marksOf, identifierOf, receiverOf, amountOf, originalOf, reasonOf, nameOf, bulkCount, bulksOf, shape, headersOf, kindsKnown, mixed}
+use Rattle.sheet.proofs.Computing.{sheetsCompute}
 
 -- ---- records, field by field in the order of the layout
-
-padded : ℕ → String → List ℕ
-padded n s = take n (text s ++ replicate n 32)
 
 header : ℕ → String → List ℕ
 header kind identifier =
@@ -30,13 +29,13 @@ textsOf : List ℕ → List ℕ → List (List ℕ)
 textsOf h m = bulkIdentifierOf h ∷ senderOf h ∷ identifierOf m ∷ receiverOf m ∷ reasonOf m ∷ nameOf m ∷ []
 
 numbersRight : numbersOf (header 1 "D1") (message "T1") ≡ 1 ∷ 7 ∷ 600 ∷ 20260615 ∷ 3 ∷ 100 ∷ 99999999999 ∷ []
-unfolding numbersOf header message padded bytesOf numberFrom
+unfolding sheetsCompute numbersOf header message
 numbersRight = refl
 
 textsRight :
     textsOf (header 1 "D1") (message "T1")
     ≡ padded 35 "D1" ∷ text "AAAALV22" ∷ padded 35 "T1" ∷ text "BBBBLV22RIX" ∷ text "AC01" ∷ text "pacs.008.001.08" ∷ []
-unfolding textsOf header message padded bytesOf
+unfolding sheetsCompute textsOf header message
 textsRight = refl
 
 -- ---- sheets
@@ -88,7 +87,7 @@ sheets =
     ∷ []
 
 sheetsRight : map (λ c. shape (c .bytes)) sheets ≡ map (λ c. c .answer) sheets
-unfolding sheets broken holds one good header message padded bytesOf messageWidth shape whole endFrom messagesFrom numberFrom
+unfolding sheetsCompute sheets broken holds one good header message
 sheetsRight = refl
 
 -- ---- the kinds of the bulks, and what the bulks are
@@ -117,7 +116,7 @@ told : Kinds → Bool × Bool
 told c = (kindsKnown (headersOf (c .bytes) (bulkCount (c .bytes))), mixed false (headersOf (c .bytes) (bulkCount (c .bytes))))
 
 ordersRight : map told orders ≡ map (λ c. (c .known, c .mixes)) orders
-unfolding told orders kinds good header message padded bytesOf kindsKnown mixed recordsAt numberFrom
+unfolding sheetsCompute told orders kinds good header message
 ordersRight = refl
 
 bulksRight :
@@ -125,5 +124,5 @@ bulksRight :
     ≡ record { header = header 1 "D1"; messages = message "T1" ∷ [] }
     ∷ record { header = header 3 "D2"; messages = message "T2" ∷ message "T3" ∷ [] }
     ∷ []
-unfolding good header message padded bytesOf messageWidth bulksFrom recordsAt numberFrom
+unfolding sheetsCompute good header message
 bulksRight = refl

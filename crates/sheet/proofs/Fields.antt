@@ -57,25 +57,25 @@ module _ (s : List ℕ) (at : ℕ) where
 
 module _ (kind : ℕ) (s : List ℕ) (at : ℕ) where
   -- a field of the message
-  field-there : (place n : ℕ) → place + n ≤ fieldsWidth → part s (at + place) n ≡ part (messageAt kind s at) place n
+  field-there : (place n : ℕ) → place + n ≤ fieldsWidth → part s (at + place) n ≡ part (messageAt s kind at) place n
   field-there place n within = sym (part-part s at (messageWidth kind) place n (omega (arith, fields-fit kind)))
 
-  pub identifier-there : part s at identifierWidth ≡ identifierOf (messageAt kind s at)
+  pub identifier-there : part s at identifierWidth ≡ identifierOf (messageAt s kind at)
   identifier-there = at-front s at (messageWidth kind) identifierWidth (omega (arith, fields-fit kind))
 
-  pub receiver-there : part s (at + receiverPlace) receiverWidth ≡ receiverOf (messageAt kind s at)
+  pub receiver-there : part s (at + receiverPlace) receiverWidth ≡ receiverOf (messageAt s kind at)
   receiver-there = field-there receiverPlace receiverWidth (lit≤ tt)
 
-  pub amount-there : numberAt s (at + amountPlace) 8 ≡ amountOf (messageAt kind s at)
+  pub amount-there : numberAt s (at + amountPlace) 8 ≡ amountOf (messageAt s kind at)
   amount-there = ap numberOf (field-there amountPlace 8 (lit≤ tt))
 
-  pub original-there : numberAt s (at + originalPlace) 8 ≡ originalOf (messageAt kind s at)
+  pub original-there : numberAt s (at + originalPlace) 8 ≡ originalOf (messageAt s kind at)
   original-there = ap numberOf (field-there originalPlace 8 (lit≤ tt))
 
-  pub reason-there : part s (at + reasonPlace) reasonWidth ≡ reasonOf (messageAt kind s at)
+  pub reason-there : part s (at + reasonPlace) reasonWidth ≡ reasonOf (messageAt s kind at)
   reason-there = field-there reasonPlace reasonWidth (lit≤ tt)
 
-  pub name-there : part s (at + namePlace) nameWidth ≡ nameOf (messageAt kind s at)
+  pub name-there : part s (at + namePlace) nameWidth ≡ nameOf (messageAt s kind at)
   name-there = field-there namePlace nameWidth (lit≤ tt)
 
 -- ---- the widths of the texts of a record that has its width
@@ -116,16 +116,16 @@ module _ (s : List ℕ) (at : ℕ) (fits : at + headerWidth ≤ length s) where
   sender-width = sender-long (headerAt s at) header-width
 
 module _ (kind : ℕ) (s : List ℕ) (at : ℕ) (fits : at + messageWidth kind ≤ length s) where
-  pub message-width : length (messageAt kind s at) ≡ messageWidth kind
+  pub message-width : length (messageAt s kind at) ≡ messageWidth kind
   message-width = part-length s at (messageWidth kind) fits
 
-  pub identifier-width : length (identifierOf (messageAt kind s at)) ≡ identifierWidth
-  identifier-width = identifier-long kind (messageAt kind s at) message-width
+  pub identifier-width : length (identifierOf (messageAt s kind at)) ≡ identifierWidth
+  identifier-width = identifier-long kind (messageAt s kind at) message-width
 
 -- ---- an amount is a word
 
 pub amount-below : (message : List ℕ) → Bytes message → amountOf message < 2 ^ 64
 amount-below message bytes = number-small message amountPlace centsWidth bytes
 
-pub amount-word : (kind : ℕ) (s : List ℕ) (at amount : ℕ) → Bytes s → amount ≡ amountOf (messageAt kind s at) → amount < 2 ^ 64
-amount-word kind s at amount bytes e = rw e (amount-below (messageAt kind s at) (part-bytes s at (messageWidth kind) bytes))
+pub amount-word : (kind : ℕ) (s : List ℕ) (at amount : ℕ) → Bytes s → amount ≡ amountOf (messageAt s kind at) → amount < 2 ^ 64
+amount-word kind s at amount bytes e = rw e (amount-below (messageAt s kind at) (part-bytes s at (messageWidth kind) bytes))

@@ -27,15 +27,15 @@ none-left n j h = omega arith
 -- ---- records one after the other
 
 module _ (w : ℕ) (s : List ℕ) where
-  pub records-step : (n j at : ℕ) → j < n → recordsAt w s (n - j) at ≡ part s at w ∷ recordsAt w s (n - (j + 1)) (at + w)
+  pub records-step : (n j at : ℕ) → j < n → recordsAt s w (n - j) at ≡ part s at w ∷ recordsAt s w (n - (j + 1)) (at + w)
   unfolding recordsAt
   records-step n j at h = rw (one-left n j h)
 
-  pub records-end : (n j at : ℕ) → n ≤ j → recordsAt w s (n - j) at ≡ []
+  pub records-end : (n j at : ℕ) → n ≤ j → recordsAt s w (n - j) at ≡ []
   unfolding recordsAt
   records-end n j at h = rw (none-left n j h)
 
-  pub records-length : (n at : ℕ) → length (recordsAt w s n at) ≡ n
+  pub records-length : (n at : ℕ) → length (recordsAt s w n at) ≡ n
   unfolding recordsAt
   records-length zero at = refl
   records-length (suc n) at = ap suc (records-length n (at + w))
@@ -117,7 +117,7 @@ module _ (s : List ℕ) where
       (records-length (widthAt s head) s (countAt s at) (at + countWidth))
       (bulks-messages n (head + headerWidth) (afterMessages s head at))
 
-  pub bulks-headers : (n head at : ℕ) → map (λ b. b .header) (bulksFrom s n head at) ≡ recordsAt headerWidth s n head
+  pub bulks-headers : (n head at : ℕ) → map (λ b. b .header) (bulksFrom s n head at) ≡ recordsAt s headerWidth n head
   unfolding bulksFrom recordsAt
   bulks-headers zero head at = refl
   bulks-headers (suc n) head at =
@@ -209,11 +209,11 @@ pub kind-read : (s : List ℕ) (at : ℕ) → kindOf (headerAt s at) ≡ getD s 
 kind-read s at = sym (kind-there s at) ∙ one-read s at
 
 module _ (s : List ℕ) (n k at : ℕ) (h : k < n) where
-  pub known-step : kindsKnown (recordsAt headerWidth s (n - k) at) ≡ (knownKind (getD s at 0) && kindsKnown (recordsAt headerWidth s (n - (k + 1)) (at + headerWidth)))
+  pub known-step : kindsKnown (recordsAt s headerWidth (n - k) at) ≡ (knownKind (getD s at 0) && kindsKnown (recordsAt s headerWidth (n - (k + 1)) (at + headerWidth)))
   unfolding kindsKnown
   known-step = rw (records-step headerWidth s n k at h, kind-read s at)
 
   pub mixed-step : (seen : Bool)
-      → mixed seen (recordsAt headerWidth s (n - k) at) ≡ (seen && eqb (getD s at 0) paymentKind || mixed (seen || eqb (getD s at 0) returnKind) (recordsAt headerWidth s (n - (k + 1)) (at + headerWidth)))
+      → mixed seen (recordsAt s headerWidth (n - k) at) ≡ (seen && eqb (getD s at 0) paymentKind || mixed (seen || eqb (getD s at 0) returnKind) (recordsAt s headerWidth (n - (k + 1)) (at + headerWidth)))
   unfolding mixed
   mixed-step seen = rw (records-step headerWidth s n k at h, kind-read s at)

@@ -18,7 +18,7 @@ abbrev pub headerIn : List ℕ → Header → List ℕ
 headerIn sheet header = headerAt sheet (header .at)
 
 abbrev pub messageIn : List ℕ → Message → List ℕ
-messageIn sheet message = messageAt (message .kind) sheet (message .at)
+messageIn sheet message = messageAt sheet (message .kind) (message .at)
 
 -- ---- the cursor
 
@@ -38,8 +38,8 @@ pub record HeaderRead (sheet : List ℕ) (at : ℕ) (read : Header) : Type 0 whe
 pub record MessageRead (sheet : List ℕ) (bulkKind at : ℕ) (read : Message) : Type 0 where
   pub place : read .at ≡ at
   pub kind : read .kind ≡ bulkKind
-  pub amount : read .amount ≡ amountOf (messageAt bulkKind sheet at)
-  pub original : read .original ≡ originalOf (messageAt bulkKind sheet at)
+  pub amount : read .amount ≡ amountOf (messageAt sheet bulkKind at)
+  pub original : read .original ≡ originalOf (messageAt sheet bulkKind at)
   pub moved : read .next .at ≡ at + messageWidth bulkKind
 
 -- ---- the walk over the bulks

@@ -139,16 +139,16 @@ abbrev pub countAt : List ℕ → ℕ → ℕ
 countAt sheet at = numberAt sheet at countWidth
 
 -- n records of a width, one after the other from place at on
-unfoldable pub recordsAt : ℕ → List ℕ → ℕ → ℕ → List (List ℕ)
-recordsAt width sheet zero at = []
-recordsAt width sheet (suc n) at = part sheet at width ∷ recordsAt width sheet n (at + width)
+unfoldable pub recordsAt : List ℕ → ℕ → ℕ → ℕ → List (List ℕ)
+recordsAt sheet width zero at = []
+recordsAt sheet width (suc n) at = part sheet at width ∷ recordsAt sheet width n (at + width)
 
 -- the header at place head, and the message at place at in a bulk of a kind
 abbrev pub headerAt : List ℕ → ℕ → List ℕ
 headerAt sheet head = part sheet head headerWidth
 
-abbrev pub messageAt : ℕ → List ℕ → ℕ → List ℕ
-messageAt kind sheet at = part sheet at (messageWidth kind)
+abbrev pub messageAt : List ℕ → ℕ → ℕ → List ℕ
+messageAt sheet kind at = part sheet at (messageWidth kind)
 
 -- ---- the bulks: each has its header at a place head, and its section of messages at a place at
 
@@ -167,7 +167,7 @@ afterMessages sheet head at = at + countWidth + widthAt sheet head * countAt she
 abbrev pub bulkAt : List ℕ → ℕ → ℕ → Bulk
 bulkAt sheet head at = record {
   header = headerAt sheet head;
-  messages = recordsAt (widthAt sheet head) sheet (countAt sheet at) (at + countWidth);
+  messages = recordsAt sheet (widthAt sheet head) (countAt sheet at) (at + countWidth);
 }
 
 -- n bulks: their headers from place head on, their sections from place at on
@@ -228,7 +228,7 @@ abbrev pub knownKind : ℕ → Bool
 knownKind kind = eqb kind paymentKind || eqb kind returnKind
 
 abbrev pub headersOf : List ℕ → ℕ → List (List ℕ)
-headersOf sheet n = recordsAt headerWidth sheet n countWidth
+headersOf sheet n = recordsAt sheet headerWidth n countWidth
 
 unfoldable pub kindsKnown : List (List ℕ) → Bool
 kindsKnown [] = true

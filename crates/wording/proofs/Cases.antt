@@ -5,9 +5,9 @@ use mathlib.Core.List.{List, [], _∷_, _++_, map}
 use Prim.Native.Nat.{ℕ, _-_}
 use Prim.Native.String.{String}
 use lib.ListN.{length, replicate}
-use Rattle.wire.specs.Field.{text, same}
-use Rattle.wire.specs.Places.{everyFrom}
-use Rattle.wording.specs.Wording.{among, allowed, kept, formed, badlyFormed, bicFormed, blank, oneOf, reasons, names}
+use Rattle.wire.specs.Field.{text}
+use Rattle.wording.specs.Wording.{badlyFormed, bicFormed, blank, oneOf, reasons, names}
+use Rattle.wording.proofs.Computing.{wordingComputes}
 
 -- what a test says of a text, and what it has to say
 record Case : Type 0 where
@@ -78,5 +78,5 @@ cases =
     ∷ []
 
 casesRight : map (λ c. c .says) cases ≡ map (λ c. c .right) cases
-unfolding cases good bad badAmid padded bic blanks reason name badlyFormed formed kept allowed among bicFormed blank oneOf same everyFrom
+unfolding wordingComputes cases good bad badAmid padded bic blanks reason name
 casesRight = refl

@@ -12,7 +12,7 @@ use Rattle.sheet.proofs.kinds_known.Statement.{statement}
 use Rattle.sheet.proofs.kinds_known.Tie as tie
 
 abbrev Inv-loop : tie.InvT-loop
-Inv-loop s n at₀ k₀ at k = (k ≤ n) × (at ≡ 4 + headerWidth * k) × (kindsKnown (recordsAt headerWidth s (n - k) at) ≡ kindsKnown (headersOf s n))
+Inv-loop s n at₀ k₀ at k = (k ≤ n) × (at ≡ 4 + headerWidth * k) × (kindsKnown (recordsAt s headerWidth (n - k) at) ≡ kindsKnown (headersOf s n))
 
 abbrev μ-loop : tie.MeasureT-loop
 μ-loop s n at₀ k₀ at k = n - k

@@ -11,7 +11,7 @@ use Rattle.sheet.proofs.kinds_mixed.Statement.{statement}
 use Rattle.sheet.proofs.kinds_mixed.Tie as tie
 
 abbrev Inv-loop : tie.InvT-loop
-Inv-loop s n seen₀ at₀ k₀ seen at k = (k ≤ n) × (at ≡ 4 + headerWidth * k) × (mixed seen (recordsAt headerWidth s (n - k) at) ≡ mixed false (headersOf s n))
+Inv-loop s n seen₀ at₀ k₀ seen at k = (k ≤ n) × (at ≡ 4 + headerWidth * k) × (mixed seen (recordsAt s headerWidth (n - k) at) ≡ mixed false (headersOf s n))
 
 abbrev μ-loop : tie.MeasureT-loop
 μ-loop s n seen₀ at₀ k₀ seen at k = n - k

@@ -3,6 +3,7 @@
 use mathlib.Core.Path.{sym}
 use Prim.Native.Nat.{_*_}
 use lib.ListN.{take}
+use Rattle.positions.specs.Positions.{positionWidth}
 use Rattle.printing.proofs.Runs.{within-reading, widen}
 use Rattle.printing.proofs.Shapes.{copy-length, copy-is, places-length, places-are, same-call, answer-fits}
 use borrow.Author.Needs.{needs}
@@ -27,7 +28,7 @@ returns c =
     let copied = copy-is (args .sheet .now) (args .table .now) (args .given .now) (c .before .before .before .before .before .before .before .before .before .before .before .before .before .before .before .before .space .result) (start .pre) (c .before .before .before .before .before .before .before .before .before .before .before .before .before .before .before .before .space .ensures) _ (c .before .before .before .before .before .before .before .before .before .before .before .before .put-text .ensures) in
     let placed = places-are (args .sheet .now) (args .table .now) (args .given .now) (c .before .before .before .before .before .before .before .before .before .before .before .before .before .before .before .space2 .result) (start .pre) (c .before .before .before .before .before .before .before .before .before .before .before .before .before .before .before .space2 .ensures) (rows .result) (rows .ensures) in
     let long = places-length (args .sheet .now) (args .table .now) (args .given .now) (c .before .before .before .before .before .before .before .before .before .before .before .before .before .before .before .space2 .result) (start .pre) (c .before .before .before .before .before .before .before .before .before .before .before .before .before .before .before .space2 .ensures) (rows .result) (rows .ensures) in
-    widen (answer-fits (args .sheet .now) (args .table .now) (args .given .now) (take (8 * rows .result) (c .before .before .before .before .before .before .before .before .before .before .before .before .before .before .before .space2 .result)) (rows .result) (start .pre) (rows .ensures) (sym long))
+    widen (answer-fits (args .sheet .now) (args .table .now) (args .given .now) (take (positionWidth * rows .result) (c .before .before .before .before .before .before .before .before .before .before .before .before .before .before .before .space2 .result)) (rows .result) (start .pre) (rows .ensures) (sym long))
     (within-reading (same-call (args .date) (args .sheet .now) (args .table .now) (args .given .now) _ _ _ copied placed (c .before .before .before .before .before .before .before .before .before .before .before .before .before .before .space3 .ensures)) (c .before .before .before .before .before .put-answer .ensures))
 
 pub put-judgement-spec : {M : Type 1} → statement M
