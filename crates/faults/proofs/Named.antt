@@ -2,8 +2,8 @@
 use mathlib.Core.Path.{_≡_, refl}
 use mathlib.Core.Bool.{Bool, false}
 use mathlib.Core.List.{List}
-use Prim.Native.Nat.{ℕ}
-use lib.ListN.{getD}
+use Prim.Native.Nat.{ℕ, _+_}
+use lib.ListN.{length, getD}
 use Rattle.masks.specs.Mask.{shown}
 use Rattle.masks.proofs.Laws.{mask-shows, mask-zero}
 use Rattle.sheet.specs.Sheet.{kindOf, bulkIdentifierOf, senderOf, statedNumberOf, statedSumOf, valueDateOf, marksOf, identifierOf, receiverOf, amountOf, originalOf, reasonOf, nameOf}
@@ -42,6 +42,10 @@ module _ (terms : Terms) (table register header : List ℕ) (number sum : ℕ) w
   pub bulk-bits : BulkBits
   bulk-bits = record { atMarksWrongBit = refl; atNoParticipantBit = refl; atDateWrongBit = refl; atBulkBadlyFormedBit = refl; atBulkRepeatedBit = refl; atEmptyBit = refl; atNumberWrongBit = refl; atSumWrongBit = refl }
 
+  -- and no fact stands past them
+  bulk-all : length (bulkFacts terms table register header number sum) ≡ sumWrongBit + 1
+  bulk-all = refl
+
 module _ (terms : Terms) (table register header message : List ℕ) where
   abbrev pub ofMessage : ℕ → Bool
   ofMessage bit = getD (messageFacts terms table register header message) bit false
@@ -67,3 +71,6 @@ module _ (terms : Terms) (table register header message : List ℕ) where
 
   pub message-bits : MessageBits
   message-bits = record { atBadlyFormedBit = refl; atRepeatedBit = refl; atReceiverBadlyFormedBit = refl; atUnreachableBit = refl; atAmountWrongBit = refl; atTellsOriginalBit = refl; atReasonUnknownBit = refl; atNameUnknownBit = refl; atAmountDiffersBit = refl }
+
+  message-all : length (messageFacts terms table register header message) ≡ amountDiffersBit + 1
+  message-all = refl

@@ -43,7 +43,8 @@ call =
       report = replicate (reportLength 1 3 + 4) 7;
     }
 
--- T1 of 100 cents was accepted; T2 cannot be reached, and the second T1 is a repeat. The report's last four bytes stay as they were
+-- T1 of 100 cents was accepted; T2 cannot be reached, and the second T1 is a repeat. negsuc 99 is -100. The report's last four
+-- bytes stay as they were
 expected : Outcome
 expected =
     record {

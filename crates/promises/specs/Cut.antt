@@ -69,8 +69,7 @@ pub record PartsMakeTheWhole (whole first second : Outcome) : Type 0 where
   pub register : second .register ≡ whole .register
   pub positions : second .positions ≡ whole .positions
 
--- demand 3, the cut: of a judge, for every call that none of the eleven conditions turns away, every place, and space enough for
--- each part
+-- demand 3, the cut: of a judge, for every call that no condition turns away, every place, and space enough for each part
 abbrev pub CutsAnywhere : Judge → Type 0
 CutsAnywhere judge =
     (call : Call) → InBytes call → refusal call ≡ 0
