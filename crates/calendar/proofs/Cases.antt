@@ -5,6 +5,7 @@ use mathlib.Core.Bool.{Bool, true, false}
 use mathlib.Core.List.{List, [], _∷_, map}
 use Prim.Native.Nat.{ℕ}
 use Rattle.calendar.specs.Date.{leap, daysIn, isDate, daysOfYears, daysOfMonths, dayNumber}
+use Rattle.calendar.proofs.Computing.{datesCompute}
 
 pub dates : List (ℕ × Bool)
 dates =
@@ -25,7 +26,7 @@ dates =
     ∷ []
 
 pub datesRight : map (λ c. isDate (c .0)) dates ≡ map (λ c. c .1) dates
-unfolding dates isDate daysIn leap
+unfolding datesCompute dates
 datesRight = refl
 
 -- across a leap day, the ends of a leap year and of a century that has none, and to the last date

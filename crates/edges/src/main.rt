@@ -25,7 +25,7 @@ fn judge(date: u32, sheet: &[u8], register: &mut [u8]) {
     );
     match answer {
         Answer::Refused(_) => say::refusal(judging::number_of(answer)),
-        Answer::Judged(length) => say::report(wire::text_at(&report, 0, length), register),
+        Answer::Judged(length) => say::report(register, wire::text_at(&report, 0, length)),
     }
 }
 

@@ -98,7 +98,7 @@ fn size(length: usize) {
 }
 
 // The report of one bulk, and how many entries of the register are used after it.
-pub(crate) fn report(report: &[u8], register: &[u8]) {
+pub(crate) fn report(register: &[u8], report: &[u8]) {
     if (report.len() <= 4) | (MOST_SHOWN < report.len()) {
         size(report.len());
     } else {

@@ -1,4 +1,4 @@
--- Positions written out from the cents of each row, for cases. Assumes nothing.
+-- Positions written out from the cents of each row, for cases and the values at the edges. Assumes nothing.
 use Prim.Native.Nat.{ℕ, suc, _-_, _^_}
 use mathlib.Core.List.{List, map}
 use lib.IntN.{ℤ, pos, negsuc}

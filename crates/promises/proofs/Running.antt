@@ -212,12 +212,12 @@ module _ (terms : Terms) (table : List ℕ) where
 
   module _ (st : State) (file : File) where
     abbrev call : Call
-    call = callOn outcome terms table st file
+    call = callOn outcome terms table file st
 
     abbrev bulks : List Bulk
     bulks = bulksOf (file .sheet)
 
-    pub file-tracked : Bytes (st .positions) → Kept st (stateAfter outcome terms table st file) (accepted (file .sheet) (outcome call))
+    pub file-tracked : Bytes (st .positions) → Kept st (stateAfter outcome terms table file st) (accepted (file .sheet) (outcome call))
     file-tracked bytes = by-answer (ℕ-discrete (refusal call) 0)
       where
         enough : Clear call → Fit terms table st (length bulks + countMessages bulks + 0) (countMessages bulks + 0)
@@ -226,7 +226,7 @@ module _ (terms : Terms) (table : List ℕ) where
             let m = message-number call (clear .whole) in
             fit-less terms table st (bulkCount (file .sheet) + messageCount (file .sheet)) (messageCount (file .sheet)) (length bulks + countMessages bulks + 0) (countMessages bulks + 0) (clear-fit call clear bytes) (omega arith) (omega arith)
 
-        by-answer : Dec (refusal call ≡ 0) → Kept st (stateAfter outcome terms table st file) (accepted (file .sheet) (outcome call))
+        by-answer : Dec (refusal call ≡ 0) → Kept st (stateAfter outcome terms table file st) (accepted (file .sheet) (outcome call))
         by-answer (yes e) =
             let clear = clear-of call e in
             let fit = bulks-fit terms table bulks st 0 0 (enough clear) in
@@ -246,8 +246,8 @@ module _ (terms : Terms) (table : List ℕ) where
   run-tracked [] st bytes = tracked-none terms table st
   run-tracked (f ∷ fs) st bytes =
       let first = file-tracked st f bytes in
-      let next = stateAfter outcome terms table st f in
-      tracked-then terms table st next (run outcome terms table fs next .after) (accepted (f .sheet) (outcome (callOn outcome terms table st f))) (run outcome terms table fs next .accepted)
+      let next = stateAfter outcome terms table f st in
+      tracked-then terms table st next (run outcome terms table fs next .after) (accepted (f .sheet) (outcome (callOn outcome terms table f st))) (run outcome terms table fs next .accepted)
       (first .tracked) (run-tracked fs next (first .bytes))
 
   run-recorded : (files : List File) (st : State)
@@ -255,11 +255,11 @@ module _ (terms : Terms) (table : List ℕ) where
   unfolding run
   run-recorded [] st = sym (append-nil (entriesOf (st .register)))
   run-recorded (f ∷ fs) st =
-      let next = stateAfter outcome terms table st f in
-      let new = recorded (f .sheet) (outcome (callOn outcome terms table st f)) in
+      let next = stateAfter outcome terms table f st in
+      let new = recorded (f .sheet) (outcome (callOn outcome terms table f st)) in
       let later = run outcome terms table fs next .recorded in
       run-recorded fs next
-      ∙ ap (λ (es : List (List ℕ)). es ++ map entry later) (file-added (callOn outcome terms table st f) .entries)
+      ∙ ap (λ (es : List (List ℕ)). es ++ map entry later) (file-added (callOn outcome terms table f st) .entries)
       ∙ append-assoc (entriesOf (st .register)) (map entry new) (map entry later)
       ∙ ap (λ (es : List (List ℕ)). entriesOf (st .register) ++ es) (sym (map-append entry new later))
 

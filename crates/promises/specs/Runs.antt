@@ -27,8 +27,8 @@ pub record Ran : Type 0 where
   pub after : State
 
 module _ (judge : Judge) (terms : Terms) (table : List ℕ) where
-  abbrev pub callOn : State → File → Call
-  callOn before file =
+  abbrev pub callOn : File → State → Call
+  callOn file before =
       record {
         terms = terms;
         sheet = file .sheet;
@@ -38,14 +38,14 @@ module _ (judge : Judge) (terms : Terms) (table : List ℕ) where
         report = file .space;
       }
 
-  abbrev pub stateAfter : State → File → State
-  stateAfter before file = let left = judge (callOn before file) in record { register = left .register; positions = left .positions }
+  abbrev pub stateAfter : File → State → State
+  stateAfter file before = let left = judge (callOn file before) in record { register = left .register; positions = left .positions }
 
   unfoldable pub run : List File → State → Ran
   run [] before = record { accepted = []; recorded = []; after = before }
   run (f ∷ fs) before =
-      let left = judge (callOn before f) in
-      let rest = run fs (stateAfter before f) in
+      let left = judge (callOn f before) in
+      let rest = run fs (stateAfter f before) in
       record {
         accepted = accepted (f .sheet) left ++ rest .accepted;
         recorded = recorded (f .sheet) left ++ rest .recorded;

@@ -1,4 +1,4 @@
--- Judges that must be shut out, each the right one but for what its name says. Assumes nothing.
+-- Judges that must be shut out, most of them the right one but for what their name says. Assumes nothing.
 use Prim.Native.Nat.{ℕ, _+_, _-_, _^_}
 use mathlib.Core.Path.{_≡_}
 use mathlib.Core.Bool.{cond}

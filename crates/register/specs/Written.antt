@@ -1,4 +1,4 @@
--- A register written out from the keys in use and the places left, for cases. Assumes nothing.
+-- A register written out from the keys in use and the places left, for cases and the values at the edges. Assumes nothing.
 use Prim.Native.Nat.{ℕ, _*_}
 use mathlib.Core.List.{List, _++_, map}
 use lib.ListN.{length, replicate}

@@ -239,7 +239,7 @@ pub fn rejected_number_in(line: &[u8]) -> u32
     wire::u32_at(line, REJECTED_NUMBER_PLACE)
 }
 
-// The last eight bytes of the field are the low half.
+// The last eight bytes of the field are the low half: of a longer one `number` keeps no more than these.
 pub fn rejected_cents_in(line: &[u8]) -> Cents
     ensures { λ r. ⌜ centsOf r ≡ totalsIn (now (line .entry)) .rejectedCents ⌝ }
 {

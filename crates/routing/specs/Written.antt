@@ -1,4 +1,4 @@
--- A row and a table written out from their fields, for cases. Assumes nothing.
+-- A row and a table written out from their fields, for cases and the values at the edges. Assumes nothing.
 use Prim.Native.Nat.{ℕ}
 use Prim.Native.String.{String}
 use mathlib.Core.List.{List, _++_}
