@@ -39,7 +39,7 @@ fn bulk_outcome(fallen: bool, tally: Tally) -> u8
     PARTIAL
 }
 
-// A bulk with an accepted message is recorded.
+// Records a bulk if one of its messages was accepted.
 fn record_bulk(register: &mut [u8], sender: &[u8], identifier: &[u8], accepted: u32)
     requires { ⌜ Parts (now sender) (now identifier) ⌝ }
     ensures { λ _. ⌜ now (register .exit) ≡ cond (eqb accepted 0) (now (register .entry)) (add (now (register .entry)) (key (now (sender .entry)) (now (identifier .entry)) bulkTag)) ⌝ }

@@ -72,7 +72,7 @@ module _ (terms : Terms) (table header : List ℕ) (fallen : Bool) where
     pub positions : positions' ≡ afterMessage terms table header fallen message before .positions
     pub line : out' ≡ sets out at (lineOf terms table header fallen message before)
 
-  -- ---- the messages of a bulk: their lines go into the part of the report that was lent
+  -- ---- the messages of a bulk, whose lines fill what was lent of the report
 
   pub record MessagesTold (messages : List (List ℕ)) (before : State) (out register' positions' out' : List ℕ) (tally : Tally) : Type 0 where
     pub totals : totalsOf tally ≡ judgeMessages terms table header fallen messages before .totals

@@ -123,7 +123,7 @@ fn judge_message(
     }
 }
 
-// Judges a section's messages. Their lines go into `out`, the part of the report after the section's count.
+// Judges a section's messages. `out` is lent from behind the section's count; the lines are written from its start.
 pub fn judge_messages(
     terms: Terms,
     sheet: &[u8],

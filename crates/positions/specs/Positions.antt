@@ -1,4 +1,4 @@
--- Positions: 8 bytes for each row of the table, a signed number of cents in two's complement. Assumes nothing.
+-- The positions of the table's rows: signed cents in two's complement, eight bytes each. Assumes nothing.
 use Prim.Native.Nat.{ℕ, _+_, _-_, _*_, _/_, _^_, _≤_}
 use mathlib.Core.Bool.{Bool, cond, not}
 use mathlib.Core.List.{List}

@@ -1,6 +1,6 @@
 -- How a caller reads what a judge left: the lines of the report, which messages it says were accepted, and what that means for the
--- register and for each row's cents. The report alone is read, by its layout, so that these words mean the same of any judge.
--- Assumes nothing.
+-- register and for each row's cents. What was judged is read in the report, by its layout, beside the sheet that it is about, and in
+-- no definition of the judge, so that these words mean the same of any judge. Assumes nothing.
 use Prim.Native.Nat.{ℕ, _+_, _-_, _*_}
 use mathlib.Core.Bool.{Bool, false, cond, not}
 use mathlib.Core.List.{List, [], _∷_, _++_, map}

@@ -1,4 +1,4 @@
--- When a whole file is turned away: the conditions, and their order in one list. Assumes nothing.
+-- Which calls are refused: the conditions, and their order in one list. Assumes nothing.
 use Prim.Native.Nat.{ℕ, _+_, _*_}
 use mathlib.Core.Bool.{Bool, false, cond, not, _||_}
 use mathlib.Core.List.{List, [], _∷_}

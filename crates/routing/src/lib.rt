@@ -1,5 +1,5 @@
 // The routing table: its form, the row of a BIC on a date, and whether that row is reachable. It knows nothing of files, registers
-// or reports, and writes to nothing: another desk takes it alone, and builds on the contract of `lookup`.
+// or reports, and writes to nothing: it can be had without the judge, and the contract of `lookup` is all that one needs.
 ghost use mathlib.Core.Path.{_≡_};
 ghost use Prim.Native.Nat.{_+_, _≤_};
 ghost use lib.ListN.{length};

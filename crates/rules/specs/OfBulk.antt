@@ -20,7 +20,7 @@ noParticipant table row = not (participates table row)
 abbrev pub dateWrong : Terms → ℕ → Bool
 dateWrong terms date = not (eqb date (terms .date))
 
--- sender and identifier stand in the register with the tag: of a bulk here, of a message among its facts
+-- the key of sender, identifier and tag is in the register: a bulk's here, a message's among its facts
 abbrev pub repeated : List ℕ → List ℕ → List ℕ → ℕ → Bool
 repeated register sender identifier tag = stands register (key sender identifier tag)
 

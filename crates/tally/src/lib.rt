@@ -4,7 +4,7 @@ ghost use Prim.Native.Nat.{_+_, _^_, _≤_, _<_};
 ghost use Rattle.tally.specs.Tally.{nothing, centsOf, totalsOf, withAccepted, withRejected};
 ghost use Rattle.tally.specs.Room.{Room, SideTold, mostCounted};
 
-// Cents, as the high and the low half: a total may pass 64 bits.
+// Cents, as the high and the low half: the sum of a bulk can need more than one word.
 pub struct Cents(pub u64, pub u64);
 
 // A number of messages.

@@ -90,7 +90,7 @@ badlyFormed s = not (wellFormed s)
 
 -- ---- BICs
 
--- four of A-Z or 0-9, two of A-Z, five of A-Z or 0-9
+-- 11 characters: capitals, at places 0 to 3 and 6 to 10 digits too
 unfoldable pub bicFormed : List ℕ → Bool
 bicFormed bic =
     eqb (length bic) 11
