@@ -1,0 +1,4 @@
+pub mod Scans
+pub mod Walks
+pub mod Characters
+pub mod References

@@ -1,0 +1,2 @@
+pub mod Prose
+pub mod Plain

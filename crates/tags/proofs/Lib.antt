@@ -1,0 +1,5 @@
+pub mod Names
+pub mod Values
+pub mod AttributeWalk
+pub mod Searches
+pub mod Tags

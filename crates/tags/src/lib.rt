@@ -1,0 +1,398 @@
+// Names, attributes, start tags and end tags, at any place of any text.
+ghost use mathlib.Core.Path.{_≡_};
+ghost use Prim.Native.Nat.{_+_, _<_};
+ghost use Rattle.wire.specs.Field.{text};
+ghost use Rattle.letters.specs.Places.{expected};
+ghost use Rattle.letters.specs.Characters.{widthAt};
+ghost use Rattle.letters.specs.References.{referenceAt};
+ghost use Rattle.tags.specs.Names.{isSpace, nameStart, nameByte, spaceEnd, nameEnd, nameAt};
+ghost use Rattle.tags.specs.Attributes.{afterReference, afterCharacter, valueTurn, valueAt, isQuote, attributeAt};
+ghost use Rattle.tags.specs.Attributes.{named, attributeTurn, attributesAt, letterAt, spells, inEuros, euros};
+ghost use Rattle.tags.specs.Tags.{closedAt, startAt, endAt};
+use letters::Reach;
+use letters::Reference;
+use letters::Turn;
+
+// A start tag: where its attributes end, and the place after it; or where its form is broken.
+pub enum Tag {
+    Open(usize, usize),
+    Empty(usize, usize),
+    Faulty(usize),
+}
+
+// ---- names and spaces
+
+pub fn is_space(b: u8) -> bool
+    ensures { λ r. ⌜ r ≡ isSpace b ⌝ }
+{
+    (b == b' ') | (b == b'\t') | (b == b'\n') | (b == b'\r')
+}
+
+// Whether a name may begin with the byte.
+pub fn name_starts(b: u8) -> bool
+    ensures { λ r. ⌜ r ≡ nameStart b ⌝ }
+{
+    ((b'A' <= b) & (b <= b'Z')) | ((b'a' <= b) & (b <= b'z')) | (b == b'_') | (b == b':')
+}
+
+// Whether the byte may stand in a name. In this order the compiler asks for letters first, which most bytes of a name are.
+fn in_name(b: u8) -> bool
+    ensures { λ r. ⌜ r ≡ nameByte b ⌝ }
+{
+    (b == b'-')
+        | (b == b'.')
+        | ((b'0' <= b) & (b <= b'9'))
+        | (b == b':')
+        | (b == b'_')
+        | ((b'a' <= b) & (b <= b'z'))
+        | ((b'A' <= b) & (b <= b'Z'))
+}
+
+// The place after the spaces that stand here.
+pub fn space_end(s: &[u8], at: usize) -> usize
+    ensures { λ r. ⌜ r ≡ spaceEnd (now (s .entry)) at ⌝ }
+{
+    let mut i = at;
+    while i < s.len() {
+        if !is_space(s[i]) {
+            return i;
+        }
+        i += 1;
+    }
+    i
+}
+
+// The place after the name that stands here.
+pub fn name_end(s: &[u8], at: usize) -> usize
+    ensures { λ r. ⌜ r ≡ nameEnd (now (s .entry)) at ⌝ }
+{
+    let mut i = at;
+    while i < s.len() {
+        if !in_name(s[i]) {
+            return i;
+        }
+        i += 1;
+    }
+    i
+}
+
+pub fn name_at(s: &[u8], at: usize) -> &[u8]
+    ensures { λ r. ⌜ now r ≡ nameAt (now (s .entry)) at ⌝ }
+{
+    wire::text_at(s, at, name_end(s, at) - at)
+}
+
+// Whether the name that stands at place from stands at place at too: what is after it there, or where it differs. Each byte is looked
+// at once, so that an end tag costs one walk over its name.
+fn name_again(s: &[u8], from: usize, at: usize) -> Reach
+    ensures { λ r. ⌜ r ≡ expected (now (s .entry)) (nameAt (now (s .entry)) from) at ⌝ }
+{
+    let mut i = from;
+    let mut p = at;
+    while i < s.len() {
+        let b = s[i];
+        if !in_name(b) {
+            return Reach::To(p);
+        }
+        if s.len() <= p {
+            return Reach::Broken(p);
+        }
+        if s[p] != b {
+            return Reach::Broken(p);
+        }
+        i += 1;
+        p += 1;
+    }
+    Reach::To(p)
+}
+
+// ---- attributes
+
+// On after the reference that stands here.
+pub fn after_reference(s: &[u8], at: usize) -> Turn
+    ensures { λ r. ⌜ r ≡ afterReference (referenceAt (now (s .entry)) at) at ⌝ }
+{
+    match letters::reference_at(s, at) {
+        Reference::Stands(_, next) => Turn::On(next),
+        Reference::Nothing => Turn::Breaks(at),
+    }
+}
+
+// On after the character that stands here.
+pub fn after_character(s: &[u8], at: usize) -> Turn
+    ensures { λ r. ⌜ r ≡ afterCharacter (widthAt (now (s .entry)) at) at ⌝ }
+{
+    let width = letters::width_at(s, at);
+    if width == 0 {
+        Turn::Breaks(at)
+    } else {
+        Turn::On(at + width)
+    }
+}
+
+fn value_turn(s: &[u8], quote: u8, at: usize) -> Turn
+    requires { ⌜ 0 < quote ⌝ }
+    ensures { λ r. ⌜ r ≡ valueTurn quote (now (s .entry)) at ⌝ }
+{
+    let b = letters::byte_at(s, at);
+    if b == quote {
+        return Turn::Ends(at + 1);
+    }
+    if b == b'<' {
+        return Turn::Breaks(at);
+    }
+    if b == b'&' {
+        after_reference(s, at)
+    } else {
+        after_character(s, at)
+    }
+}
+
+// A value and its closing quote. No quote is 0, which is what stands past the end.
+fn value(s: &[u8], quote: u8, at: usize) -> Reach
+    requires { ⌜ 0 < quote ⌝ }
+    ensures { λ r. ⌜ r ≡ valueAt quote (now (s .entry)) at ⌝ }
+{
+    let mut i = at;
+    loop {
+        match value_turn(s, quote, i) {
+            Turn::On(n) => {
+                i = n;
+            }
+            Turn::Ends(e) => {
+                return Reach::To(e);
+            }
+            Turn::Breaks(p) => {
+                return Reach::Broken(p);
+            }
+        }
+    }
+}
+
+pub fn is_quote(b: u8) -> bool
+    ensures { λ r. ⌜ r ≡ isQuote b ⌝ }
+{
+    (b == b'"') | (b == b'\'')
+}
+
+// A name, '=' and a value in quotes.
+pub fn attribute(s: &[u8], at: usize) -> Reach
+    ensures { λ r. ⌜ r ≡ attributeAt (now (s .entry)) at ⌝ }
+{
+    let equals = space_end(s, name_end(s, at));
+    if letters::byte_at(s, equals) != b'=' {
+        return Reach::Broken(equals);
+    }
+    let from = space_end(s, equals + 1);
+    let quote = letters::byte_at(s, from);
+    if is_quote(quote) {
+        value(s, quote, from + 1)
+    } else {
+        Reach::Broken(from)
+    }
+}
+
+// Whether an attribute from place from on has the name that stands at place at, before that place.
+fn named(s: &[u8], from: usize, at: usize) -> bool
+    ensures { λ r. ⌜ r ≡ named (now (s .entry)) from at ⌝ }
+{
+    let name = name_at(s, at);
+    let mut i = from;
+    loop {
+        let k = space_end(s, i);
+        if at <= k {
+            return false;
+        }
+        if texts::same(name_at(s, k), name) {
+            return true;
+        }
+        match attribute(s, k) {
+            Reach::To(n) => {
+                i = n;
+            }
+            Reach::Broken(_) => {
+                return false;
+            }
+        }
+    }
+}
+
+fn attribute_turn(s: &[u8], from: usize, at: usize) -> Turn
+    ensures { λ r. ⌜ r ≡ attributeTurn (now (s .entry)) from at ⌝ }
+{
+    if !is_space(letters::byte_at(s, at)) {
+        return Turn::Ends(at);
+    }
+    let k = space_end(s, at);
+    if !name_starts(letters::byte_at(s, k)) {
+        return Turn::Ends(k);
+    }
+    if named(s, from, k) {
+        return Turn::Breaks(k);
+    }
+    match attribute(s, k) {
+        Reach::To(n) => Turn::On(n),
+        Reach::Broken(p) => Turn::Breaks(p),
+    }
+}
+
+// The attributes of a tag: the place at which what ends the tag has to stand.
+pub fn attributes(s: &[u8], from: usize) -> Reach
+    ensures { λ r. ⌜ r ≡ attributesAt (now (s .entry)) from ⌝ }
+{
+    let mut i = from;
+    loop {
+        match attribute_turn(s, from, i) {
+            Turn::On(n) => {
+                i = n;
+            }
+            Turn::Ends(e) => {
+                return Reach::To(e);
+            }
+            Turn::Breaks(p) => {
+                return Reach::Broken(p);
+            }
+        }
+    }
+}
+
+// ---- a currency
+
+// The place after a letter, which stands itself or by a reference.
+fn letter(s: &[u8], c: u8, at: usize) -> Reach
+    requires { ⌜ 0 < c ⌝ }
+    ensures { λ r. ⌜ r ≡ letterAt c (now (s .entry)) at ⌝ }
+{
+    if letters::byte_at(s, at) == c {
+        return Reach::To(at + 1);
+    }
+    match letters::reference_at(s, at) {
+        Reference::Stands(d, next) => {
+            if d == c as usize {
+                Reach::To(next)
+            } else {
+                Reach::Broken(at)
+            }
+        }
+        Reference::Nothing => Reach::Broken(at),
+    }
+}
+
+// Whether EUR and the closing quote stand here.
+fn spells_euros(s: &[u8], quote: u8, at: usize) -> bool
+    ensures { λ r. ⌜ r ≡ spells (text "EUR") quote (now (s .entry)) at ⌝ }
+{
+    match letter(s, b'E', at) {
+        Reach::To(a) => match letter(s, b'U', a) {
+            Reach::To(b) => match letter(s, b'R', b) {
+                Reach::To(e) => letters::byte_at(s, e) == quote,
+                Reach::Broken(_) => false,
+            },
+            Reach::Broken(_) => false,
+        },
+        Reach::Broken(_) => false,
+    }
+}
+
+// Whether the attribute whose name begins here is Ccy="EUR".
+fn is_euros(s: &[u8], at: usize) -> bool
+    ensures { λ r. ⌜ r ≡ inEuros (now (s .entry)) at ⌝ }
+{
+    if !texts::same(name_at(s, at), b"Ccy") {
+        return false;
+    }
+    let equals = space_end(s, name_end(s, at));
+    if s.len() <= equals {
+        return false;
+    }
+    let from = space_end(s, equals + 1);
+    if s.len() <= from {
+        return false;
+    }
+    spells_euros(s, s[from], from + 1)
+}
+
+// Whether one of the attributes between two places says that the amount is in euros.
+pub fn in_euros(s: &[u8], from: usize, end: usize) -> bool
+    ensures { λ r. ⌜ r ≡ euros (now (s .entry)) from end ⌝ }
+{
+    let mut i = from;
+    loop {
+        let k = space_end(s, i);
+        if end <= k {
+            return false;
+        }
+        if is_euros(s, k) {
+            return true;
+        }
+        match attribute(s, k) {
+            Reach::To(n) => {
+                i = n;
+            }
+            Reach::Broken(_) => {
+                return false;
+            }
+        }
+    }
+}
+
+// ---- tags
+
+// What ends a start tag.
+fn closed(s: &[u8], at: usize) -> Tag
+    ensures { λ r. ⌜ r ≡ closedAt (now (s .entry)) at ⌝ }
+{
+    let b = letters::byte_at(s, at);
+    if b == b'>' {
+        return Tag::Open(at, at + 1);
+    }
+    if b != b'/' {
+        return Tag::Faulty(at);
+    }
+    if letters::byte_at(s, at + 1) == b'>' {
+        Tag::Empty(at, at + 2)
+    } else {
+        Tag::Faulty(at + 1)
+    }
+}
+
+// A start tag. Most have no attributes, and are done after their name.
+pub fn start(s: &[u8], at: usize) -> Tag
+    ensures { λ r. ⌜ r ≡ startAt (now (s .entry)) at ⌝ }
+{
+    if s.len() <= at {
+        return Tag::Faulty(at);
+    }
+    let from = at + 1;
+    if !name_starts(letters::byte_at(s, from)) {
+        return Tag::Faulty(from);
+    }
+    let to = name_end(s, from);
+    if letters::byte_at(s, to) == b'>' {
+        return Tag::Open(to, to + 1);
+    }
+    match attributes(s, to) {
+        Reach::To(e) => closed(s, e),
+        Reach::Broken(p) => Tag::Faulty(p),
+    }
+}
+
+// The place after one; or that one itself where the text has ended, since no name stands at either then.
+fn after(s: &[u8], at: usize) -> usize
+    ensures { λ r. ⌜ nameAt (now (s .entry)) r ≡ nameAt (now (s .entry)) (at + 1) ⌝ }
+{
+    if at < s.len() { at + 1 } else { at }
+}
+
+// The end tag of the element whose start tag began at a place.
+pub fn end(s: &[u8], start: usize, at: usize) -> Reach
+    ensures { λ r. ⌜ r ≡ endAt (now (s .entry)) start at ⌝ }
+{
+    match letters::expect(s, b"</", at) {
+        Reach::To(n) => match name_again(s, after(s, start), n) {
+            Reach::To(m) => letters::expect(s, b">", space_end(s, m)),
+            Reach::Broken(p) => Reach::Broken(p),
+        },
+        Reach::Broken(p) => Reach::Broken(p),
+    }
+}
