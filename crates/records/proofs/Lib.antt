@@ -1,0 +1,4 @@
+pub mod Missing
+pub mod Laws
+mod Writes
+mod Cases
