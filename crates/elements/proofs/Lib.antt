@@ -1,0 +1,8 @@
+pub mod Forests
+pub mod Fields
+pub mod Forward
+pub mod Contents
+pub mod Elements
+pub mod Noting
+pub mod Calm
+mod Cases

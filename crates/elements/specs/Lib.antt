@@ -1,0 +1,4 @@
+pub mod Forest
+pub mod Grammar
+pub mod Notes
+pub mod Questions
