@@ -1,9 +1,9 @@
 /*
- * Tynderaxo: judges a payment file, already taken apart into a sheet, before it goes to clearing.
+ * Tynderaxo: reads documents (pacs.008.001.08, pacs.004.001.09) into a sheet, and judges a sheet before it goes to clearing.
  *
- * What a caller owes, for both functions:
+ * What a caller owes, for all functions:
  *   - each pointer is valid for the length beside it: for reading where it is const, else for reading and writing;
- *   - no buffer that is written (reg, positions, report) overlaps another; sheet, table and bic may lie over one another;
+ *   - no buffer that is written (reg, positions, report, the sheet of the reader) overlaps another; what is const may lie over what is const;
  *   - a buffer of length 0 may be a null pointer.
  * Nothing else is asked: the buffers may hold any bytes and have any lengths, and what does not fit is answered.
  *
@@ -67,6 +67,29 @@ typedef struct {
 tynderaxo_route tynderaxo_lookup(uint32_t date,
                                  const uint8_t *table, size_t table_len,
                                  const uint8_t *bic, size_t bic_len);
+
+/*
+ * number: 0 if the text became a sheet, else why not:
+ *   21  the text is not of the accepted form (docs/01-scope.md, "Documents")
+ *   22  an element stands at level 33
+ *   23  in an element something needed is missing or stands twice, or a document is no Document
+ *   24  the sheet's space is too short
+ *      Of 21 and 22 the one that is met first in the text is given, then 23, then 24.
+ * length: the bytes of sheet written; 0 with any refusal, and then no byte of it has changed.
+ * at:     with 21 and 22 the place in the text, from 0, of the byte at which it is met; with 23 that of the first element in which
+ *         something is missing or stands twice; else 0.
+ */
+typedef struct {
+    uint32_t number;
+    uint64_t length;
+    uint64_t at;
+} tynderaxo_read_answer;
+
+/*
+ * Reads a text of one document or several, each of them one bulk, into a sheet for tynderaxo_judge. Bytes of sheet after its
+ * length stay as they were. It is never longer than 4 + 69 bytes a bulk + 81 bytes a message.
+ */
+tynderaxo_read_answer tynderaxo_read(const uint8_t *document, size_t document_len, uint8_t *sheet, size_t sheet_len);
 
 #ifdef __cplusplus
 }

@@ -1,10 +1,12 @@
--- What the doors' structs say, as the definitions of the judge and of the lookup say it. Assumes nothing.
+-- What the doors' structs say, as the definitions of the judge, of the lookup and of the reader say it. Assumes nothing.
 use mathlib.Core.List.{List}
 use Prim.Native.Nat.{ℕ}
 use Rattle.judging.specs.Outcome.{Outcome}
 use Rattle.routing.specs.Lookup.{Routed}
 use Rattle.tynderaxo.specs.declared.TynderaxoAnswer.{TynderaxoAnswer}
+use Rattle.reading.specs.Reading as reading
 use Rattle.tynderaxo.specs.declared.TynderaxoRoute.{TynderaxoRoute}
+use Rattle.tynderaxo.specs.declared.TynderaxoReadAnswer.{TynderaxoReadAnswer}
 
 -- an answer and the bytes that were left, as an outcome
 abbrev pub doorOutcome : TynderaxoAnswer → List ℕ → List ℕ → List ℕ → Outcome
@@ -13,3 +15,17 @@ doorOutcome answer register positions report =
 
 abbrev pub routedBy : TynderaxoRoute → Routed
 routedBy r = record { number = r .number; found = r .found; row = r .row; reachable = r .reachable }
+
+-- a reading in numbers, and the space that it left
+pub record ReadOutcome : Type 0 where
+  pub number : ℕ
+  pub length : ℕ
+  pub at : ℕ
+  pub sheet : List ℕ
+
+abbrev pub readOutcome : TynderaxoReadAnswer → List ℕ → ReadOutcome
+readOutcome answer sheet = record { number = answer .number; length = answer .length; at = answer .at; sheet = sheet }
+
+abbrev pub inNumbers : reading.Outcome → ReadOutcome
+inNumbers o =
+    record { number = reading.numberOf (o .answer); length = reading.lengthOf (o .answer); at = reading.whereOf (o .answer); sheet = o .sheet }

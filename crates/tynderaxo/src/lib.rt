@@ -1,11 +1,12 @@
-// The doors for C: the proved judge and the proved lookup under C's calling convention, and nothing else. A caller owes what
+// The doors for C: the proved judge, lookup and reader under C's calling convention, and nothing else. A caller owes what
 // include/tynderaxo.h says: pointers that are valid for their lengths, and no written buffer over another.
 ghost use mathlib.Core.Path.{_≡_};
 ghost use Rattle.judging.specs.Outcome.{outcome};
 ghost use Rattle.refusing.specs.Checking.{callOf};
 ghost use Rattle.rules.specs.Terms.{dated};
 ghost use Rattle.routing.specs.Lookup.{lookup};
-ghost use Rattle.tynderaxo.specs.Doors.{doorOutcome, routedBy};
+ghost use Rattle.reading.specs.Reading.{reads};
+ghost use Rattle.tynderaxo.specs.Doors.{doorOutcome, routedBy, readOutcome, inNumbers};
 use routing::Answer;
 use rules::Terms;
 
@@ -23,6 +24,14 @@ pub struct TynderaxoRoute {
     pub found: u32,
     pub row: u32,
     pub reachable: u32,
+}
+
+// A refusal's number and its place, or 0 and the sheet's length.
+#[repr(C)]
+pub struct TynderaxoReadAnswer {
+    pub number: u32,
+    pub length: u64,
+    pub at: u64,
 }
 
 #[no_mangle]
@@ -67,5 +76,17 @@ pub extern "C" fn tynderaxo_lookup(date: u32, table: &[u8], bic: &[u8]) -> Tynde
             row: place as u32,
             reachable: reachable as u32,
         },
+    }
+}
+
+#[no_mangle]
+pub extern "C" fn tynderaxo_read(document: &[u8], sheet: &mut [u8]) -> TynderaxoReadAnswer
+    ensures { λ r. ⌜ readOutcome r (now (sheet .exit)) ≡ inNumbers (reads (now (document .entry)) (now (sheet .entry))) ⌝ }
+{
+    let reading = reading::read(document, sheet);
+    TynderaxoReadAnswer {
+        number: reading::number_of(reading),
+        length: reading::length_of(reading) as u64,
+        at: reading::place_in(reading) as u64,
     }
 }

@@ -1,0 +1,9 @@
+pub mod Looks
+pub mod Roots
+pub mod Surveys
+pub mod Sheets
+pub mod Gathers
+pub mod Children
+pub mod Documents
+pub mod Fillings
+pub mod Answers

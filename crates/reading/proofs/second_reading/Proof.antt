@@ -1,0 +1,72 @@
+-- `reading::second_reading` meets its contract: the bulks so far are written, with those of what is left they are the sheet. Assumes nothing.
+use mathlib.Core.Path.{_≡_, refl, sym, ap, _∙_}
+use Prim.Native.Nat.{ℕ, _+_, _*_, _-_}
+use native.Mathlib.Omega.{arith}
+use lib.ListN.{length}
+use borrow.Author.Needs.{needs}
+use Rattle.reading.specs.Text.{documentAt, rootsAt}
+use Rattle.reading.proofs.Roots.{document-onward}
+use Rattle.reading.proofs.Fillings.{Writing, writing-starts, next-document, head-room, document-placed, writing-on, writing-ends, fitting-on, headers-fit}
+use Rattle.reading.proofs.second_reading.Statement.{statement}
+use Rattle.reading.proofs.second_reading.Tie as tie
+
+abbrev Inv-loop : tie.InvT-loop
+Inv-loop d₀ s first bulks i₀ h₀ m₀ d i h m = (length d ≡ length d₀) × Writing s first bulks i h m d₀ d
+
+abbrev μ-loop : tie.MeasureT-loop
+μ-loop d₀ s first bulks i₀ h₀ m₀ d i h m = length s - i
+
+mul-m : tie.Need-mul-m Inv-loop μ-loop
+mul-m c = let room = headers-fit (c .before .before .before .before .before .before .args .s .now) (rootsAt (c .before .before .before .before .before .before .args .s .now) (c .before .before .before .before .before .before .args .first)) (c .before .before .before .before .before .before .args .bulks) (c .before .before .before .before .before .before .args .d .now) (c .before .before .before .before .before .before .pre) in search needs
+
+add-m : tie.Need-add-m Inv-loop μ-loop
+add-m c = let room = headers-fit (c .before .before .before .before .before .before .args .s .now) (rootsAt (c .before .before .before .before .before .before .args .s .now) (c .before .before .before .before .before .before .args .first)) (c .before .before .before .before .before .before .args .bulks) (c .before .before .before .before .before .before .args .d .now) (c .before .before .before .before .before .before .pre) in search needs
+
+loop-holds : tie.Need-loop-holds Inv-loop μ-loop
+loop-holds c = (refl, writing-starts (c .before .before .before .before .before .before .args .s .now) (c .before .before .before .before .before .before .args .first) (c .before .before .before .before .before .before .args .bulks) (c .before .before .put-number .last .0))
+
+put-document-requires : tie.Need-put-document-requires Inv-loop μ-loop
+put-document-requires c κs = document-placed (c .before .before .before .before .before .before .before .before .before .args .s .now) (c .before .before .before .before .before .before .before .before .before .args .first) (c .before .before .before .before .before .before .before .before .before .args .bulks) (c .before .before .before .before .before .put-number .last .0) (fitting-on (c .before .before .before .before .before .before .before .before .before .args .s .now) (rootsAt (c .before .before .before .before .before .before .before .before .before .args .s .now) (c .before .before .before .before .before .before .before .before .before .args .first)) (c .before .before .before .before .before .before .before .before .before .args .bulks) (c .before .before .before .before .before .before .before .before .before .args .d .now) (c .before .before .before .before .before .put-number .last .0) (c .before .before .before .before .before .before .before .before .before .pre) (c .before .before .before .before .before .put-number .kept .0)) (c .before .before .loop .i) (c .before .before .loop .h) (c .before .before .loop .m) (c .before .before .loop .d) (c .before .before .loop .inv .1) (next-document (c .before .before .before .before .before .before .before .before .before .args .s .now) (c .before .before .before .before .before .before .before .before .before .args .first) (c .before .before .before .before .before .before .before .before .before .args .bulks) (c .before .before .before .before .before .put-number .last .0) (fitting-on (c .before .before .before .before .before .before .before .before .before .args .s .now) (rootsAt (c .before .before .before .before .before .before .before .before .before .args .s .now) (c .before .before .before .before .before .before .before .before .before .args .first)) (c .before .before .before .before .before .before .before .before .before .args .bulks) (c .before .before .before .before .before .before .before .before .before .args .d .now) (c .before .before .before .before .before .put-number .last .0) (c .before .before .before .before .before .before .before .before .before .pre) (c .before .before .before .before .before .put-number .kept .0)) (c .before .before .loop .i) (c .before .before .loop .h) (c .before .before .loop .m) (c .before .before .loop .d) (c .before .before .loop .inv .1) (c .before .loop-test .taken)) (c .before .loop-test .taken)
+
+add-h : tie.Need-add-h Inv-loop μ-loop
+add-h c =
+    let room = headers-fit (c .before .before .before .before .before .before .before .before .before .before .before .before .args .s .now) (rootsAt (c .before .before .before .before .before .before .before .before .before .before .before .before .args .s .now) (c .before .before .before .before .before .before .before .before .before .before .before .before .args .first)) (c .before .before .before .before .before .before .before .before .before .before .before .before .args .bulks) (c .before .before .before .before .before .before .before .before .before .before .before .before .args .d .now) (c .before .before .before .before .before .before .before .before .before .before .before .before .pre) in
+    let head = head-room (c .before .before .before .before .before .before .before .before .before .before .before .before .args .s .now) (c .before .before .before .before .before .before .before .before .before .before .before .before .args .first) (c .before .before .before .before .before .before .before .before .before .before .before .before .args .bulks) (c .before .before .before .before .before .before .before .before .put-number .last .0) (fitting-on (c .before .before .before .before .before .before .before .before .before .before .before .before .args .s .now) (rootsAt (c .before .before .before .before .before .before .before .before .before .before .before .before .args .s .now) (c .before .before .before .before .before .before .before .before .before .before .before .before .args .first)) (c .before .before .before .before .before .before .before .before .before .before .before .before .args .bulks) (c .before .before .before .before .before .before .before .before .before .before .before .before .args .d .now) (c .before .before .before .before .before .before .before .before .put-number .last .0) (c .before .before .before .before .before .before .before .before .before .before .before .before .pre) (c .before .before .before .before .before .before .before .before .put-number .kept .0)) (c .before .before .before .before .before .loop .i) (c .before .before .before .before .before .loop .h) (c .before .before .before .before .before .loop .m) (c .before .before .before .before .before .loop .d) (c .before .before .before .before .before .loop .inv .1) (next-document (c .before .before .before .before .before .before .before .before .before .before .before .before .args .s .now) (c .before .before .before .before .before .before .before .before .before .before .before .before .args .first) (c .before .before .before .before .before .before .before .before .before .before .before .before .args .bulks) (c .before .before .before .before .before .before .before .before .put-number .last .0) (fitting-on (c .before .before .before .before .before .before .before .before .before .before .before .before .args .s .now) (rootsAt (c .before .before .before .before .before .before .before .before .before .before .before .before .args .s .now) (c .before .before .before .before .before .before .before .before .before .before .before .before .args .first)) (c .before .before .before .before .before .before .before .before .before .before .before .before .args .bulks) (c .before .before .before .before .before .before .before .before .before .before .before .before .args .d .now) (c .before .before .before .before .before .before .before .before .put-number .last .0) (c .before .before .before .before .before .before .before .before .before .before .before .before .pre) (c .before .before .before .before .before .before .before .before .put-number .kept .0)) (c .before .before .before .before .before .loop .i) (c .before .before .before .before .before .loop .h) (c .before .before .before .before .before .loop .m) (c .before .before .before .before .before .loop .d) (c .before .before .before .before .before .loop .inv .1) (c .before .before .before .before .loop-test .taken)) in
+    let at = c .before .before .before .before .before .loop .inv .1 .heads in
+    search needs
+
+loop-less : tie.Need-loop-less Inv-loop μ-loop
+loop-less c =
+    let next = next-document (c .before .before .before .before .before .before .before .before .before .before .before .before .before .args .s .now) (c .before .before .before .before .before .before .before .before .before .before .before .before .before .args .first) (c .before .before .before .before .before .before .before .before .before .before .before .before .before .args .bulks) (c .before .before .before .before .before .before .before .before .before .put-number .last .0) (fitting-on (c .before .before .before .before .before .before .before .before .before .before .before .before .before .args .s .now) (rootsAt (c .before .before .before .before .before .before .before .before .before .before .before .before .before .args .s .now) (c .before .before .before .before .before .before .before .before .before .before .before .before .before .args .first)) (c .before .before .before .before .before .before .before .before .before .before .before .before .before .args .bulks) (c .before .before .before .before .before .before .before .before .before .before .before .before .before .args .d .now) (c .before .before .before .before .before .before .before .before .before .put-number .last .0) (c .before .before .before .before .before .before .before .before .before .before .before .before .before .pre) (c .before .before .before .before .before .before .before .before .before .put-number .kept .0)) (c .before .before .before .before .before .before .loop .i) (c .before .before .before .before .before .before .loop .h) (c .before .before .before .before .before .before .loop .m) (c .before .before .before .before .before .before .loop .d) (c .before .before .before .before .before .before .loop .inv .1) (c .before .before .before .before .before .loop-test .taken) in
+    let on = document-onward (c .before .before .before .before .before .before .before .before .before .before .before .before .before .args .s .now) (c .before .before .before .before .before .before .loop .i) (next .end) (next .forest) (next .was) in
+    let put = rw (next .was) at (c .before .before .before .put-document .ensures) in
+    omega (arith, c .space-end .ensures, put .0, c .before .before .before .before .before .loop-test .taken)
+
+loop-again : tie.Need-loop-again Inv-loop μ-loop
+loop-again c =
+    let next = next-document (c .before .before .before .before .before .before .before .before .before .before .before .before .before .args .s .now) (c .before .before .before .before .before .before .before .before .before .before .before .before .before .args .first) (c .before .before .before .before .before .before .before .before .before .before .before .before .before .args .bulks) (c .before .before .before .before .before .before .before .before .before .put-number .last .0) (fitting-on (c .before .before .before .before .before .before .before .before .before .before .before .before .before .args .s .now) (rootsAt (c .before .before .before .before .before .before .before .before .before .before .before .before .before .args .s .now) (c .before .before .before .before .before .before .before .before .before .before .before .before .before .args .first)) (c .before .before .before .before .before .before .before .before .before .before .before .before .before .args .bulks) (c .before .before .before .before .before .before .before .before .before .before .before .before .before .args .d .now) (c .before .before .before .before .before .before .before .before .before .put-number .last .0) (c .before .before .before .before .before .before .before .before .before .before .before .before .before .pre) (c .before .before .before .before .before .before .before .before .before .put-number .kept .0)) (c .before .before .before .before .before .before .loop .i) (c .before .before .before .before .before .before .loop .h) (c .before .before .before .before .before .before .loop .m) (c .before .before .before .before .before .before .loop .d) (c .before .before .before .before .before .before .loop .inv .1) (c .before .before .before .before .before .loop-test .taken) in
+    let put = rw (next .was) at (c .before .before .before .put-document .ensures) in (
+      c .before .before .before .put-document .kept .0 ∙ c .before .before .before .before .before .before .loop .inv .0,
+      rw (c .space-end .ensures) (writing-on (c .before .before .before .before .before .before .before .before .before .before .before .before .before .args .s .now) (c .before .before .before .before .before .before .before .before .before .before .before .before .before .args .first) (c .before .before .before .before .before .before .before .before .before .before .before .before .before .args .bulks) (c .before .before .before .before .before .before .before .before .before .put-number .last .0) (fitting-on (c .before .before .before .before .before .before .before .before .before .before .before .before .before .args .s .now) (rootsAt (c .before .before .before .before .before .before .before .before .before .before .before .before .before .args .s .now) (c .before .before .before .before .before .before .before .before .before .before .before .before .before .args .first)) (c .before .before .before .before .before .before .before .before .before .before .before .before .before .args .bulks) (c .before .before .before .before .before .before .before .before .before .before .before .before .before .args .d .now) (c .before .before .before .before .before .before .before .before .before .put-number .last .0) (c .before .before .before .before .before .before .before .before .before .before .before .before .before .pre) (c .before .before .before .before .before .before .before .before .before .put-number .kept .0)) (c .before .before .before .before .before .before .loop .i) (c .before .before .before .before .before .before .loop .h) (c .before .before .before .before .before .before .loop .m) (c .before .before .before .before .before .before .loop .d) (c .before .before .before .before .before .before .loop .inv .1) next (c .before .before .before .put-document .result) _ (c .before .before .before .before .before .before .loop .h + 65) (c .before .before .before .before .before .loop-test .taken) put refl),
+    )
+
+returns : tie.Need-returns Inv-loop μ-loop
+returns c = writing-ends (c .before .before .before .before .before .before .before .before .args .s .now) (c .before .before .before .before .before .before .before .before .args .first) (c .before .before .before .before .before .before .before .before .args .bulks) (c .before .before .before .before .put-number .last .0) (fitting-on (c .before .before .before .before .before .before .before .before .args .s .now) (rootsAt (c .before .before .before .before .before .before .before .before .args .s .now) (c .before .before .before .before .before .before .before .before .args .first)) (c .before .before .before .before .before .before .before .before .args .bulks) (c .before .before .before .before .before .before .before .before .args .d .now) (c .before .before .before .before .put-number .last .0) (c .before .before .before .before .before .before .before .before .pre) (c .before .before .before .before .put-number .kept .0)) (c .before .loop .i) (c .before .loop .h) (c .before .loop .m) (c .before .loop .d) (c .before .loop .inv .1) (c .before .before .before .before .before .before .before .before .args .d .now) (c .before .before .before .before .put-number .ensures) (c .loop-test .left)
+
+pub second-reading-spec : {M : Type 1} → statement M
+second-reading-spec =
+    tie.close
+    (tie.spec
+    Inv-loop
+    μ-loop
+    (λ c κs. search needs)
+    mul-m
+    add-m
+    loop-holds
+    put-document-requires
+    add-h
+    (λ c κs. search needs)
+    loop-less
+    loop-again
+    (λ c. search needs)
+    returns)
