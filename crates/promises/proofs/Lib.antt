@@ -7,6 +7,7 @@ pub mod DeterminedBytes
 pub mod DeterminedFiles
 pub mod DeterminedJudge
 pub mod DeterminedPrint
+pub mod DeterminedReader
 pub mod Entered
 pub mod Fit
 pub mod Joined
