@@ -2,19 +2,24 @@
  * Puts the archive behind a pipe, so that a tester built for another processor can call it.
  *
  * Standard input brings calls and standard output takes answers; numbers are little-endian.
- *   call:    7 words of 4 bytes: which function (1 judge, 2 lookup), date, five lengths; then the five buffers:
- *            sheet (for a lookup the BIC), table, register, positions, report (the last three empty for a lookup)
- *   answer:  5 words of 4 bytes: number, then for the judge the length in two halves (low first) and a 0, for the
- *            lookup found, row and reachable; last, 1 if no byte outside the lent buffers and none of the sheet, the
- *            BIC or the table changed; then register, positions and report as they now are
+ *   call:    7 words of 4 bytes: which function (1 judge, 2 lookup, 3 read), date, five lengths; then the five buffers:
+ *            sheet (for a lookup the BIC, for reading the text), table, register, positions, report; for a lookup the
+ *            last three are empty, for reading the report is the space for a sheet and the three before it are empty
+ *   answer:  6 words of 4 bytes: number, then for the judge the length in two halves (low first) and two 0, for the
+ *            lookup found, row, reachable and a 0, for reading length and place in two halves each; last, 1 if no byte
+ *            outside the lent buffers and none of the first two buffers changed; then register, positions and report
+ *            as they now are
+ * Reading is there only where this was built with WITH_READER.
  */
 #include <stdio.h>
 #include <stdlib.h>
 #include <string.h>
 
 #include "../include/tynderaxo.h"
+#ifdef WITH_READER
+#endif
 
-enum { JUDGE = 1, LOOKUP = 2, BUFFERS = 5, READ_ONLY = 2, GUARD = 61, GUARD_BYTE = 0xA5 };
+enum { JUDGE = 1, LOOKUP = 2, READ = 3, BUFFERS = 5, READ_ONLY = 2, WORDS = 5, GUARD = 61, GUARD_BYTE = 0xA5 };
 
 /* All buffers of a call, each between guards; the odd guard width leaves them unaligned. */
 typedef struct {
@@ -57,15 +62,34 @@ static uint32_t intact(const arena *a) {
     return 1;
 }
 
-static void call(const arena *a, uint32_t function, uint32_t date, uint32_t answer[4]) {
+static void put_halves(uint32_t words[2], uint64_t number) {
+    words[0] = (uint32_t)number;
+    words[1] = (uint32_t)(number >> 32);
+}
+
+static void read_text(const arena *a, uint32_t answer[WORDS]) {
+#ifdef WITH_READER
+    tynderaxo_read_answer read = tynderaxo_read(buffer(a, 0), a->lengths[0], buffer(a, 4), a->lengths[4]);
+    answer[0] = read.number;
+    put_halves(answer + 1, read.length);
+    put_halves(answer + 3, read.at);
+#else
+    (void)a;
+    (void)answer;
+    fail("the archive has no reader");
+#endif
+}
+
+static void call(const arena *a, uint32_t function, uint32_t date, uint32_t answer[WORDS]) {
+    memset(answer, 0, WORDS * sizeof *answer);
     if (function == JUDGE) {
         tynderaxo_answer judged = tynderaxo_judge(date, buffer(a, 0), a->lengths[0], buffer(a, 1), a->lengths[1],
                                                   buffer(a, 2), a->lengths[2], buffer(a, 3), a->lengths[3],
                                                   buffer(a, 4), a->lengths[4]);
         answer[0] = judged.number;
-        answer[1] = (uint32_t)judged.length;
-        answer[2] = (uint32_t)(judged.length >> 32);
-        answer[3] = 0;
+        put_halves(answer + 1, judged.length);
+    } else if (function == READ) {
+        read_text(a, answer);
     } else {
         tynderaxo_route route = tynderaxo_lookup(date, buffer(a, 1), a->lengths[1], buffer(a, 0), a->lengths[0]);
         answer[0] = route.number;
@@ -80,15 +104,15 @@ int main(void) {
     setvbuf(stdin, in, _IOFBF, sizeof in);
     setvbuf(stdout, out, _IOFBF, sizeof out);
     arena a = {0};
-    uint32_t words[7], answer[5];
+    uint32_t words[7], answer[WORDS + 1];
     while (fread(words, sizeof words, 1, stdin) == 1) {
-        if (words[0] != JUDGE && words[0] != LOOKUP) fail("no such function");
+        if (words[0] != JUDGE && words[0] != LOOKUP && words[0] != READ) fail("no such function");
         lay_out(&a, words + 2);
         for (int i = 0; i < BUFFERS; i++)
             if (fread(a.bytes + a.at[i], 1, a.lengths[i], stdin) != a.lengths[i]) fail("a call ends early");
         memcpy(a.before, a.bytes, a.length);
         call(&a, words[0], words[1], answer);
-        answer[4] = intact(&a);
+        answer[WORDS] = intact(&a);
         fwrite(answer, sizeof answer, 1, stdout);
         for (int i = READ_ONLY; i < BUFFERS; i++) fwrite(a.bytes + a.at[i], 1, a.lengths[i], stdout);
         if (fflush(stdout) != 0) fail("the answer cannot be written");

@@ -6,9 +6,15 @@ use std::path::{Path, PathBuf};
 use std::process::{Child, ChildStdin, ChildStdout, Command, Stdio};
 
 use crate::call::{Answer, Call, Judge, Route, Trouble};
+use crate::documents::checks::{Answer as Reading, TextReader};
 
 const JUDGE: u32 = 1;
 const LOOKUP: u32 = 2;
+const READ: u32 = 3;
+
+/// What the server answers in words: the number, four more, and whether all else was left alone.
+const WORDS: usize = 6;
+type Words = [u32; WORDS];
 
 /// A command for a program of this machine's or the archive's processor; the latter may need an emulator here.
 pub fn command(program: &Path) -> Command {
@@ -43,7 +49,7 @@ impl Running {
     }
 
     /// Sends one call whole; the answer's words come back, and the written buffers into their places.
-    fn ask(&mut self, words: [u32; 2], lent: [&[u8]; 2], written: [&mut [u8]; 3]) -> io::Result<[u32; 5]> {
+    fn ask(&mut self, words: [u32; 2], lent: [&[u8]; 2], written: [&mut [u8]; 3]) -> io::Result<Words> {
         let mut call = Vec::new();
         let lengths = lent.iter().map(|buffer| buffer.len()).chain(written.iter().map(|buffer| buffer.len()));
         let words = words.into_iter().chain(lengths.map(|length| length as u32));
@@ -52,7 +58,7 @@ impl Running {
         written.iter().for_each(|buffer| call.extend(buffer.iter()));
         self.calls.write_all(&call)?;
 
-        let mut bytes = [0; 20];
+        let mut bytes = [0; 4 * WORDS];
         self.answers.read_exact(&mut bytes)?;
         for buffer in written {
             self.answers.read_exact(buffer)?;
@@ -60,7 +66,7 @@ impl Running {
         let word = |index: usize| {
             u32::from_le_bytes(bytes[4 * index..4 * index + 4].try_into().expect("four bytes"))
         };
-        Ok([word(0), word(1), word(2), word(3), word(4)])
+        Ok(std::array::from_fn(word))
     }
 
     /// How the server ended, once a pipe has broken.
@@ -84,12 +90,7 @@ impl Archive {
         Archive { server: server.to_path_buf(), running: None }
     }
 
-    fn ask(
-        &mut self,
-        words: [u32; 2],
-        lent: [&[u8]; 2],
-        written: [&mut [u8]; 3],
-    ) -> Result<[u32; 5], Trouble> {
+    fn ask(&mut self, words: [u32; 2], lent: [&[u8]; 2], written: [&mut [u8]; 3]) -> Result<Words, Trouble> {
         let mut running = match self.running.take() {
             Some(running) => running,
             None => {
@@ -100,7 +101,7 @@ impl Archive {
             Err(_) => Err(running.ending()),
             Ok(answer) => {
                 self.running = Some(running);
-                let intact = answer[4] == 1;
+                let intact = answer[WORDS - 1] == 1;
                 intact
                     .then_some(answer)
                     .ok_or_else(|| "a byte outside the buffers to be written changed".to_string())
@@ -109,11 +110,23 @@ impl Archive {
     }
 }
 
+/// A number in two words, the low half first.
+fn halves(words: &[u32]) -> u64 {
+    u64::from(words[1]) << 32 | u64::from(words[0])
+}
+
+impl TextReader for Archive {
+    fn read(&mut self, text: &[u8], space: &mut [u8]) -> Result<Reading, Trouble> {
+        let words = self.ask([READ, 0], [text, &[]], [&mut [], &mut [], space])?;
+        Ok(Reading { number: words[0], length: halves(&words[1..]), at: halves(&words[3..]) })
+    }
+}
+
 impl Judge for Archive {
     fn judge(&mut self, call: &mut Call) -> Result<Answer, Trouble> {
         let Call { date, sheet, table, register, positions, report } = call;
         let words = self.ask([JUDGE, *date], [sheet, table], [register, positions, report])?;
-        Ok(Answer { number: words[0], length: u64::from(words[2]) << 32 | u64::from(words[1]) })
+        Ok(Answer { number: words[0], length: halves(&words[1..]) })
     }
 
     fn lookup(&mut self, date: u32, table: &[u8], bic: &[u8]) -> Result<Route, Trouble> {

@@ -35,6 +35,20 @@ fn any_bytes_go_there_and_back() {
 }
 
 #[test]
+fn the_lines_of_a_sheet_are_those_of_a_case() {
+    for case in 0..500 {
+        let call = generate::call(&mut Random::of(9, case));
+        for date in [None, Some(call.date)] {
+            let lines = text::write_sheet(&call.sheet, date);
+            let bytes =
+                text::read(&format!("date {}\n{lines}", call.date)).expect("the lines are well formed");
+            // date, an empty table, an empty register, and the sheet behind its length
+            assert_eq!(bytes[4 + 8 + 8 + 4..], call.sheet, "{lines}");
+        }
+    }
+}
+
+#[test]
 fn a_text_gives_these_bytes() {
     let bytes = text::read("date 20260615\nrow AB_C 1 2 5\nregister 1\nentry S I\\x00 1\nbulks 0\n").unwrap();
     let table = [&[0, 0, 0, 24, 0, 0, 0, 1][..], b"AB C       ", &[0, 0, 0, 1, 0, 0, 0, 2, 5]].concat();

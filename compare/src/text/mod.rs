@@ -28,4 +28,4 @@ mod words;
 mod write;
 
 pub use read::read;
-pub use write::{write, write_input};
+pub use write::{write, write_input, write_sheet};

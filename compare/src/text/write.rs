@@ -16,7 +16,12 @@ pub fn write_input(input: &Input) -> String {
     let mut text = format!("date {}\n", input.date);
     text += &table(&input.table).unwrap_or_else(|| raw("table", &input.table));
     text += &register(&input.register).unwrap_or_else(|| raw("register", &input.register));
-    text + &sheet(&input.sheet, input.date).unwrap_or_else(|| raw("sheet", &input.sheet))
+    text + &write_sheet(&input.sheet, Some(input.date))
+}
+
+/// The lines of a sheet alone; a bulk's date is left out where it is the given one.
+pub fn write_sheet(bytes: &[u8], date: Option<u32>) -> String {
+    sheet(bytes, date).unwrap_or_else(|| raw("sheet", bytes))
 }
 
 /// Some lines of digits, and at least one, so that a part of no bytes shows too.
@@ -62,7 +67,7 @@ fn entry(entry: &Entry) -> String {
     format!("entry {} {} {}\n", word(&entry.sender), word(&entry.identifier), entry.tag)
 }
 
-fn sheet(mut sheet: &[u8], date: u32) -> Option<String> {
+fn sheet(mut sheet: &[u8], date: Option<u32>) -> Option<String> {
     let bulks = read_bulks(&mut sheet)?;
     let mut text: String = bulks.iter().map(|one| bulk(one, date)).collect();
     if bulks.is_empty() {
@@ -75,7 +80,7 @@ fn sheet(mut sheet: &[u8], date: u32) -> Option<String> {
 }
 
 /// Leaves out what has its usual value.
-fn bulk(bulk: &Bulk, date: u32) -> String {
+fn bulk(bulk: &Bulk, date: Option<u32>) -> String {
     let Bulk { header, messages } = bulk;
     let Header { identifier, sender, .. } = header;
     let sum: u128 = messages.iter().map(|message| u128::from(message.amount)).sum();
@@ -83,7 +88,7 @@ fn bulk(bulk: &Bulk, date: u32) -> String {
         ("kind", u64::from(header.kind), header.kind != 1),
         ("number", header.number, header.number != messages.len() as u64),
         ("sum", header.sum, u128::from(header.sum) != sum),
-        ("date", u64::from(header.date), header.date != date),
+        ("date", u64::from(header.date), Some(header.date) != date),
         ("marks", u64::from(header.marks), header.marks != 3),
     ];
     let unusual = settings.iter().filter(|(_, _, unusual)| *unusual);
