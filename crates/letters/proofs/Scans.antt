@@ -2,14 +2,15 @@
 use mathlib.Core.Path.{_≡_, refl, sym, _∙_}
 use mathlib.Core.Bool.{Bool, true, false, cond}
 use mathlib.Core.List.{List, [], _∷_}
-use Prim.Native.Nat.{ℕ, zero, suc, _+_, _≤_, _<_}
+use Prim.Native.Nat.{ℕ, zero, suc, _+_, _-_, _≤_, _<_}
+use native.Mathlib.Nat.{add-zero}
 use native.Mathlib.Numerals.{add-one}
 use native.Mathlib.Omega.{arith}
 use lib.Dec.{eqb}
-use lib.ListN.{length, drop, getD, drop-of-length-le, List·getD-eq-default}
-use lib.Seq.{drop-cons}
+use lib.ListN.{length, drop, getD, length-drop, drop-of-length-le, List·getD-eq-default}
+use lib.Seq.{drop-cons, getD-drop}
 use borrow.Author.Tests.{eq-eqb, ne-eqb}
-use Rattle.letters.specs.Places.{byteAt, run, matches}
+use Rattle.letters.specs.Places.{byteAt, run, runEnd, between, matches, expected}
 use Rattle.letters.specs.declared.Reach.{Reach}
 use Rattle.letters.specs.declared.Reach.the-variants.{To, Broken}
 
@@ -40,25 +41,77 @@ module _ (f : ℕ → Bool) (s : List ℕ) (i : ℕ) where
   unfolding run
   run-ends h = rw (drop-of-length-le s h) (omega arith)
 
+-- a run ends in the text, if it is one
+run-within : (f : ℕ → Bool) (t : List ℕ) → run f t ≤ length t
+unfolding run
+run-within f [] = omega arith
+run-within f (b ∷ bs) = by-test (run-within f bs) (f b)
+  where
+    by-test : run f bs ≤ length bs → (t : Bool) → cond t (suc (run f bs)) 0 ≤ suc (length bs)
+    by-test h true = omega arith
+    by-test h false = omega arith
+
+pub run-inside : (f : ℕ → Bool) (s : List ℕ) (at : ℕ) → at < runEnd f s at → runEnd f s at ≤ length s
+run-inside f s at h = omega (arith, run-within f (drop at s), length-drop at s)
+
+-- ---- a word at place p, by its first byte
+
+module _ (s : List ℕ) (b : ℕ) (bs : List ℕ) (p : ℕ) where
+  pub word-short : length s ≤ p → expected s (b ∷ bs) p ≡ Broken p
+  unfolding matches
+  word-short past = rw (drop-of-length-le s past)
+
+  pub word-other : (byteAt s p ≡ b → ⊥) → expected s (b ∷ bs) p ≡ Broken p
+  unfolding matches
+  word-other d = by-text (drop p s) (λ e. d (sym (getD-drop p s 0 0 ∙ (rw add-zero)) ∙ e))
+    where
+      by-text : (t : List ℕ) → (byteAt t 0 ≡ b → ⊥) → matches (b ∷ bs) t p ≡ Broken p
+      by-text [] d = refl
+      by-text (c ∷ cs) d = rw (ne-eqb c b d)
+
+  pub word-on : p < length s → byteAt s p ≡ b → expected s (b ∷ bs) p ≡ expected s bs (p + 1)
+  unfolding matches
+  word-on k e = rw (drop-cons s p 0 k, eq-eqb (byteAt s p) b e, add-one p)
+
+-- a byte that is not 0 stands in the text
+pub word-first : (s : List ℕ) (b : ℕ) (bs : List ℕ) (p : ℕ) → 0 < b → byteAt s p ≡ b → expected s (b ∷ bs) p ≡ expected s bs (p + 1)
+word-first s b bs p some e = word-on s b bs p (byte-there s p (omega arith)) e
+
 -- ---- a word that is compared from place i of it on, with the text from place p on
 
 module _ (s word : List ℕ) (p i : ℕ) where
-  pub match-short : i < length word → length s ≤ p → matches (drop i word) (drop p s) p ≡ Broken p
-  unfolding matches
-  match-short h past = rw (drop-cons word i 0 h, drop-of-length-le s past)
-
-  match-step : i < length word → p < length s
-      → matches (drop i word) (drop p s) p ≡ cond (eqb (getD s p 0) (getD word i 0)) (matches (drop (i + 1) word) (drop (p + 1) s) (p + 1)) (Broken p)
-  unfolding matches
-  match-step h k = rw (drop-cons word i 0 h, drop-cons s p 0 k, add-one i, add-one p)
-
-  pub match-differs : i < length word → p < length s → (getD s p 0 ≡ getD word i 0 → ⊥) → matches (drop i word) (drop p s) p ≡ Broken p
-  match-differs h k d = match-step h k ∙ (rw (ne-eqb _ _ d))
-
-  pub match-on : i < length word → p < length s → getD s p 0 ≡ getD word i 0
-      → matches (drop i word) (drop p s) p ≡ matches (drop (i + 1) word) (drop (p + 1) s) (p + 1)
-  match-on h k e = match-step h k ∙ (rw (eq-eqb _ _ e))
-
-  pub match-ends : length word ≤ i → matches (drop i word) (drop p s) p ≡ To p
+  pub match-ends : length word ≤ i → expected s (drop i word) p ≡ To p
   unfolding matches
   match-ends h = rw (drop-of-length-le word h)
+
+  module _ (h : i < length word) where
+    pub match-short : length s ≤ p → expected s (drop i word) p ≡ Broken p
+    match-short past = rw (drop-cons word i 0 h) (word-short s _ _ p past)
+
+    pub match-differs : (getD s p 0 ≡ getD word i 0 → ⊥) → expected s (drop i word) p ≡ Broken p
+    match-differs d = rw (drop-cons word i 0 h) (word-other s _ _ p d)
+
+    pub match-on : p < length s → getD s p 0 ≡ getD word i 0 → expected s (drop i word) p ≡ expected s (drop (i + 1) word) (p + 1)
+    match-on k e = rw (drop-cons word i 0 h, add-one i) (word-on s _ _ p k e)
+
+-- ---- the part of a text up to place to, from place i on, looked for again at place p
+
+module _ (s : List ℕ) (to i p : ℕ) where
+  pub again-ends : to ≤ i → expected s (between s i to) p ≡ To p
+  unfolding matches
+  again-ends h = let none : to - i ≡ 0 = omega arith in rw none
+
+  module _ (h : i < to) (here : i < length s) where
+    between-more : between s i to ≡ byteAt s i ∷ between s (i + 1) to
+    between-more =
+        let width : to - i ≡ suc (to - (i + 1)) = omega arith in
+        rw (width, drop-cons s i 0 here, add-one i)
+
+    pub again-short : length s ≤ p → expected s (between s i to) p ≡ Broken p
+    again-short past = rw between-more (word-short s _ _ p past)
+
+    pub again-differs : (byteAt s p ≡ byteAt s i → ⊥) → expected s (between s i to) p ≡ Broken p
+    again-differs d = rw between-more (word-other s _ _ p d)
+
+    pub again-on : (j q : ℕ) → j ≡ i + 1 → q ≡ p + 1 → p < length s → byteAt s p ≡ byteAt s i → expected s (between s i to) p ≡ expected s (between s j to) q
+    again-on j q next after k e = rw (between-more, next, after) (word-on s _ _ p k e)

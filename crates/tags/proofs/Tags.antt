@@ -2,18 +2,18 @@
 use mathlib.Core.Path.{_≡_, refl, sym, _∙_}
 use mathlib.Core.Bool.{Bool, true, false, cond, false≢true}
 use mathlib.Core.List.{List, [], _∷_}
-use Prim.Native.Nat.{ℕ, zero, suc, _+_, _≤_, _<_}
+use Prim.Native.Nat.{ℕ, zero, suc, _+_, _-_, _≤_, _<_, min}
 use native.Mathlib.Omega.{arith}
 use lib.Dec.{eqb, ltb}
 use lib.ListN.{length, drop, length-drop}
-use borrow.Author.Tests.{eq-eqb, ne-eqb, eqb-true, lt-ltb, le-ltb}
+use borrow.Author.Tests.{eq-eqb, ne-eqb, eqb-true, lt-ltb, le-ltb, ltb-true, ltb-false}
 use Rattle.wire.specs.Field.{text}
-use Rattle.letters.specs.Places.{byteAt, matches, expected, onReach}
+use Rattle.letters.specs.Places.{byteAt, between, matches, expected, onReach}
 use Rattle.letters.specs.declared.Reach.{Reach}
 use Rattle.letters.specs.declared.Reach.the-variants.{To, Broken}
-use Rattle.letters.proofs.Scans.{byte-there}
+use Rattle.letters.proofs.Scans.{byte-there, run-stops, run-ends, word-other, word-first}
 use Rattle.letters.proofs.Walks.{went, match-forward}
-use Rattle.tags.specs.Names.{isSpace, nameStart, nameEnd, spaceEnd, nameAt}
+use Rattle.tags.specs.Names.{isSpace, nameStart, nameByte, nameEnd, spaceEnd, nameAt}
 use Rattle.tags.specs.Attributes.{attributesAt}
 use Rattle.tags.specs.Tags.{closedAt, closing, startAt, endAt}
 use Rattle.tags.specs.declared.Tag.{Tag}
@@ -57,17 +57,16 @@ module _ (s : List ℕ) (at : ℕ) where
   unfolding startAt
   start-nameless h e = rw (lt-ltb at (length s) h, e)
 
-  pub start-named : nameStart (byteAt s (at + 1)) ≡ true → (r : Reach) → attributesAt s (nameEnd s (at + 1)) ≡ r → startAt s at ≡ closing s r
-  unfolding startAt
-  start-named begins r e =
-      let there = byte-there s (at + 1) (start-some (byteAt s (at + 1)) begins) in
-      rw (lt-ltb at (length s) (omega arith), begins, e)
+  -- where its name ends at place to
+  module _ (begins : nameStart (byteAt s (at + 1)) ≡ true) (to : ℕ) (ends : to ≡ nameEnd s (at + 1)) where
+    pub start-named : (r : Reach) → attributesAt s to ≡ r → closing s r ≡ startAt s at
+    unfolding startAt
+    start-named r e =
+        let there = byte-there s (at + 1) (start-some (byteAt s (at + 1)) begins) in
+        rw (lt-ltb at (length s) (omega arith), begins, ← ends, e)
 
-  pub start-plain : nameStart (byteAt s (at + 1)) ≡ true → byteAt s (nameEnd s (at + 1)) ≡ 62
-      → startAt s at ≡ Open (nameEnd s (at + 1)) (nameEnd s (at + 1) + 1)
-  start-plain begins e =
-      start-named begins (To (nameEnd s (at + 1))) (attributes-none s (nameEnd s (at + 1)) (none-plain _ e))
-      ∙ sym (closed-open s (nameEnd s (at + 1)) e)
+    pub start-plain : byteAt s to ≡ 62 → Open to (to + 1) ≡ startAt s at
+    start-plain e = closed-open s to e ∙ start-named (To to) (attributes-none s to (none-plain _ e))
 
 -- ---- what a start tag tells
 
@@ -128,6 +127,11 @@ pub expected-inside : (s : List ℕ) (b : ℕ) (bs : List ℕ) (at n : ℕ) → 
 expected-inside s b bs at n e =
     omega (arith, match-forward (b ∷ bs) (drop at s) at n e, match-fits (b ∷ bs) (drop at s) at n e, length-drop at s)
 
+pub ended-here : (s : List ℕ) (at : ℕ) → byteAt s at ≡ 62 → To (at + 1) ≡ expected s (text ">") (spaceEnd s at)
+unfolding matches
+ended-here s at e =
+    rw (← run-stops isSpace s at (byte-there s at (omega arith)) (none-plain _ e), word-first s 62 [] at (omega arith) e)
+
 module _ (s : List ℕ) (start at : ℕ) where
   abbrev ended : ℕ → Reach
   ended m = expected s (text ">") (spaceEnd s m)
@@ -135,15 +139,22 @@ module _ (s : List ℕ) (start at : ℕ) where
   abbrev again : ℕ → Reach
   again n = onReach (expected s (nameAt s (start + 1)) n) ended
 
-  pub end-first : (r : Reach) → expected s (text "</") at ≡ r → endAt s start at ≡ onReach r again
+  pub end-unopened : (byteAt s at ≡ 60 → ⊥) → Broken at ≡ endAt s start at
   unfolding endAt
-  end-first r e = rw e
+  end-unopened other = rw (word-other s 60 (text "/") at other)
 
-  -- after what was found first, with the name that stands at place k too
-  module _ (n : ℕ) (first : Reach) (opened : first ≡ expected s (text "</") at) (on : first ≡ To n) where
-    pub end-name : (k : ℕ) → nameAt s k ≡ nameAt s (start + 1) → (named r : Reach) → named ≡ expected s (nameAt s k) n → named ≡ r
-        → endAt s start at ≡ onReach r ended
-    end-name k same named r found told = end-first (To n) (sym opened ∙ on) ∙ (rw (← same, ← found, told))
+  module _ (opens : byteAt s at ≡ 60) where
+    pub end-unslashed : (byteAt s (at + 1) ≡ 47 → ⊥) → Broken (at + 1) ≡ endAt s start at
+    unfolding endAt
+    end-unslashed other = rw (word-first s 60 (text "/") at (omega arith) opens, word-other s 47 [] (at + 1) other)
+
+    -- where the name ends at place to
+    pub end-named : byteAt s (at + 1) ≡ 47 → (to : ℕ) → to ≡ nameEnd s (start + 1)
+        → (r : Reach) → expected s (between s (start + 1) to) (at + 2) ≡ r → onReach r ended ≡ endAt s start at
+    unfolding endAt matches
+    end-named slash to ends r e =
+        let two : at + 1 + 1 ≡ at + 2 = omega arith in
+        rw (word-first s 60 (text "/") at (omega arith) opens, word-first s 47 [] (at + 1) (omega arith) slash, two, ← ends, e)
 
   pub end-forward : (n : ℕ) → endAt s start at ≡ To n → (at + 2 ≤ n) × (n ≤ length s)
   unfolding endAt
@@ -154,3 +165,19 @@ module _ (s : List ℕ) (start at : ℕ) where
       let named = match-forward (nameAt s (start + 1)) (drop (a .mid) s) (a .mid) (b .mid) (b .first) in
       let closed = match-forward (text ">") (drop (spaceEnd s (b .mid)) s) (spaceEnd s (b .mid)) n (b .then) in
       (omega arith, expected-inside s 62 [] (spaceEnd s (b .mid)) n (b .then))
+
+-- past the end of the text no name stands, from whichever place on
+name-past : (s : List ℕ) (at : ℕ) → length s ≤ at → nameAt s at ≡ []
+name-past s at h =
+    let none : nameEnd s at - at ≡ 0 = omega (arith, run-ends nameByte s at h) in
+    rw none
+
+pub end-least : (s : List ℕ) (start at : ℕ) → endAt s (min start (length s)) at ≡ endAt s start at
+unfolding endAt
+end-least s start at = by-test (ltb start (length s)) refl
+  where
+    by-test : (t : Bool) → ltb start (length s) ≡ t → endAt s (min start (length s)) at ≡ endAt s start at
+    by-test true e = let same : min start (length s) ≡ start = omega (arith, ltb-true) in rw same
+    by-test false e =
+        let past : length s ≤ start = omega (arith, ltb-false) in
+        rw (name-past s (min start (length s) + 1) (omega arith), name-past s (start + 1) (omega arith))

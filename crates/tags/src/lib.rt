@@ -1,8 +1,9 @@
 // Names, attributes, start tags and end tags, at any place of any text.
 ghost use mathlib.Core.Path.{_≡_};
-ghost use Prim.Native.Nat.{_+_, _<_};
+ghost use Prim.Native.Nat.{_+_, _≤_, _<_};
+ghost use lib.ListN.{length};
 ghost use Rattle.wire.specs.Field.{text};
-ghost use Rattle.letters.specs.Places.{expected};
+ghost use Rattle.letters.specs.Places.{between, expected};
 ghost use Rattle.letters.specs.Characters.{widthAt};
 ghost use Rattle.letters.specs.References.{referenceAt};
 ghost use Rattle.tags.specs.Names.{isSpace, nameStart, nameByte, spaceEnd, nameEnd, nameAt};
@@ -82,28 +83,27 @@ pub fn name_at(s: &[u8], at: usize) -> &[u8]
     wire::text_at(s, at, name_end(s, at) - at)
 }
 
-// Whether the name that stands at place from stands at place at too: what is after it there, or where it differs. Each byte is looked
-// at once, so that an end tag costs one walk over its name.
-fn name_again(s: &[u8], from: usize, at: usize) -> Reach
-    ensures { λ r. ⌜ r ≡ expected (now (s .entry)) (nameAt (now (s .entry)) from) at ⌝ }
+// Whether the name between two places stands at place at too: what is after it there, or where it differs. How much of it can be
+// compared is settled in front, so that a byte costs no more than its comparison.
+fn name_again(s: &[u8], from: usize, to: usize, at: usize) -> Reach
+    requires { ⌜ to ≡ nameEnd (now s) from ⌝ }
+    requires { ⌜ at ≤ length (now s) ⌝ }
+    ensures { λ r. ⌜ r ≡ expected (now (s .entry)) (between (now (s .entry)) from to) at ⌝ }
 {
-    let mut i = from;
-    let mut p = at;
-    while i < s.len() {
-        let b = s[i];
-        if !in_name(b) {
-            return Reach::To(p);
+    let n = wire::least(to - from, s.len() - at);
+    let mut k = 0;
+    while k < n {
+        let b = s[from + k];
+        if s[at + k] != b {
+            return Reach::Broken(at + k);
         }
-        if s.len() <= p {
-            return Reach::Broken(p);
-        }
-        if s[p] != b {
-            return Reach::Broken(p);
-        }
-        i += 1;
-        p += 1;
+        k += 1;
     }
-    Reach::To(p)
+    if from + k < to {
+        Reach::Broken(at + k)
+    } else {
+        Reach::To(at + k)
+    }
 }
 
 // ---- attributes
@@ -356,20 +356,16 @@ fn closed(s: &[u8], at: usize) -> Tag
     }
 }
 
-// A start tag. Most have no attributes, and are done after their name.
-pub fn start(s: &[u8], at: usize) -> Tag
+// A start tag whose name ends at place to, in general.
+fn attributed(s: &[u8], at: usize, to: usize) -> Tag
+    requires { ⌜ to ≡ nameEnd (now s) (at + 1) ⌝ }
     ensures { λ r. ⌜ r ≡ startAt (now (s .entry)) at ⌝ }
 {
     if s.len() <= at {
         return Tag::Faulty(at);
     }
-    let from = at + 1;
-    if !name_starts(letters::byte_at(s, from)) {
-        return Tag::Faulty(from);
-    }
-    let to = name_end(s, from);
-    if letters::byte_at(s, to) == b'>' {
-        return Tag::Open(to, to + 1);
+    if !name_starts(letters::byte_at(s, at + 1)) {
+        return Tag::Faulty(at + 1);
     }
     match attributes(s, to) {
         Reach::To(e) => closed(s, e),
@@ -377,22 +373,59 @@ pub fn start(s: &[u8], at: usize) -> Tag
     }
 }
 
-// The place after one; or that one itself where the text has ended, since no name stands at either then.
-fn after(s: &[u8], at: usize) -> usize
-    ensures { λ r. ⌜ nameAt (now (s .entry)) r ≡ nameAt (now (s .entry)) (at + 1) ⌝ }
+// A start tag whose name ends at place to. Most have no attributes, and are done there.
+pub fn start_from(s: &[u8], at: usize, to: usize) -> Tag
+    requires { ⌜ to ≡ nameEnd (now s) (at + 1) ⌝ }
+    ensures { λ r. ⌜ r ≡ startAt (now (s .entry)) at ⌝ }
 {
-    if at < s.len() { at + 1 } else { at }
+    if letters::byte_at(s, to) == b'>' {
+        if name_starts(s[at + 1]) {
+            return Tag::Open(to, to + 1);
+        }
+    }
+    attributed(s, at, to)
 }
 
-// The end tag of the element whose start tag began at a place.
+pub fn start(s: &[u8], at: usize) -> Tag
+    ensures { λ r. ⌜ r ≡ startAt (now (s .entry)) at ⌝ }
+{
+    if s.len() <= at {
+        return Tag::Faulty(at);
+    }
+    start_from(s, at, name_end(s, at + 1))
+}
+
+// Spaces or none, and what ends an end tag.
+fn end_closed(s: &[u8], at: usize) -> Reach
+    ensures { λ r. ⌜ r ≡ expected (now (s .entry)) (text ">") (spaceEnd (now (s .entry)) at) ⌝ }
+{
+    if letters::byte_at(s, at) == b'>' {
+        return Reach::To(at + 1);
+    }
+    letters::expect(s, b">", space_end(s, at))
+}
+
+// The end tag of the element whose start tag began at a place, and whose name ends at place to.
+pub fn end_from(s: &[u8], start: usize, to: usize, at: usize) -> Reach
+    requires { ⌜ to ≡ nameEnd (now s) (start + 1) ⌝ }
+    ensures { λ r. ⌜ r ≡ endAt (now (s .entry)) start at ⌝ }
+{
+    if letters::byte_at(s, at) != b'<' {
+        return Reach::Broken(at);
+    }
+    if letters::byte_at(s, at + 1) != b'/' {
+        return Reach::Broken(at + 1);
+    }
+    match name_again(s, start + 1, to, at + 2) {
+        Reach::To(m) => end_closed(s, m),
+        Reach::Broken(p) => Reach::Broken(p),
+    }
+}
+
+// The end tag of the element whose start tag began at a place. Past the end of the text no name stands, from whichever place on.
 pub fn end(s: &[u8], start: usize, at: usize) -> Reach
     ensures { λ r. ⌜ r ≡ endAt (now (s .entry)) start at ⌝ }
 {
-    match letters::expect(s, b"</", at) {
-        Reach::To(n) => match name_again(s, after(s, start), n) {
-            Reach::To(m) => letters::expect(s, b">", space_end(s, m)),
-            Reach::Broken(p) => Reach::Broken(p),
-        },
-        Reach::Broken(p) => Reach::Broken(p),
-    }
+    let begin = wire::least(start, s.len());
+    end_from(s, begin, name_end(s, begin + 1), at)
 }

@@ -22,7 +22,7 @@ returns c =
 returns-2 : tie.Need-returns-2 Inv-loop μ-loop
 returns-2 c =
     let loop = c .before .before .before .before .before .loop in
-    sym (match-differs _ _ (loop .p) (loop .i) (search needs) (search needs) (c .if2 .taken)) ∙ loop .inv
+    sym (match-differs _ _ (loop .p) (loop .i) (search needs) (c .if2 .taken)) ∙ loop .inv
 
 loop-again : tie.Need-loop-again Inv-loop μ-loop
 loop-again c =

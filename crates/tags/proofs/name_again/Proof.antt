@@ -1,45 +1,58 @@
 -- `tags::name_again` meets its contract: what is left of the name, from the place reached on, comes to what the whole does. Assumes nothing.
 use mathlib.Core.Path.{_≡_, refl, sym, _∙_}
-use Prim.Native.Nat.{_-_}
+use Prim.Native.Nat.{_+_, _-_, _≤_}
+use native.Mathlib.Nat.{add-zero}
+use native.Mathlib.Omega.{arith}
 use lib.ListN.{length}
 use borrow.Author.Needs.{needs}
-use borrow.Author.Tests.{not-true, not-false}
-use Rattle.letters.specs.Places.{expected}
-use Rattle.tags.specs.Names.{nameAt}
-use Rattle.tags.proofs.Names.{again-past, again-ends, again-short, again-differs, again-on}
+use Rattle.letters.specs.Places.{between, expected}
+use Rattle.letters.proofs.Scans.{run-inside, again-ends, again-short, again-differs, again-on}
+use Rattle.tags.specs.Names.{nameByte}
 use Rattle.tags.proofs.name_again.Statement.{statement}
 use Rattle.tags.proofs.name_again.Tie as tie
 
 abbrev Inv-loop : tie.InvT-loop
-Inv-loop s from at i₀ p₀ i p = expected s (nameAt s i) p ≡ expected s (nameAt s from) at
+Inv-loop s from to at n k₀ k = (expected s (between s (from + k) to) (at + k) ≡ expected s (between s from to) at) × (k ≤ n)
 
 abbrev μ-loop : tie.MeasureT-loop
-μ-loop s from at i₀ p₀ i p = length s - i
+μ-loop s from to at n k₀ k = n - k
+
+loop-holds : tie.Need-loop-holds Inv-loop μ-loop
+loop-holds c = (simp add-zero, omega arith)
+
+shared-slice-read-b : tie.Need-shared-slice-read-b Inv-loop μ-loop
+shared-slice-read-b c =
+    let args = c .before .before .before .before .before .args in
+    omega (arith, run-inside nameByte (args .s .now) (args .from) (omega arith))
 
 returns : tie.Need-returns Inv-loop μ-loop
 returns c =
+    let args = c .before .before .before .before .before .before .before .args in
     let loop = c .before .before .before .before .loop in
-    sym (again-ends (c .before .before .before .before .before .before .args .s .now) (loop .i) (loop .p) (search needs) (sym (c .before .in-name .ensures) ∙ not-true _ (c .if1 .taken))) ∙ loop .inv
-
-returns-2 : tie.Need-returns-2 Inv-loop μ-loop
-returns-2 c =
-    let loop = c .before .before .before .before .before .loop in
-    sym (again-short (c .before .before .before .before .before .before .before .args .s .now) (loop .i) (loop .p) (search needs) (sym (c .before .before .in-name .ensures) ∙ not-false _ (c .before .if1 .left)) (search needs)) ∙ loop .inv
-
-returns-3 : tie.Need-returns-3 Inv-loop μ-loop
-returns-3 c =
-    let loop = c .before .before .before .before .before .before .before .loop in
-    sym (again-differs (c .before .before .before .before .before .before .before .before .before .args .s .now) (loop .i) (loop .p) (search needs) (sym (c .before .before .before .before .in-name .ensures) ∙ not-false _ (c .before .before .before .if1 .left)) (search needs) (c .if3 .taken)) ∙ loop .inv
+    let inside = run-inside nameByte (args .s .now) (args .from) (omega arith) in
+    sym (again-differs (args .s .now) (args .to) (args .from + loop .k) (args .at + loop .k) (omega arith) (omega arith) (c .if1 .taken)) ∙ loop .inv .0
 
 loop-again : tie.Need-loop-again Inv-loop μ-loop
 loop-again c =
-    let loop = c .before .before .before .before .before .before .before .loop in
-    sym (again-on (c .before .before .before .before .before .before .before .before .before .args .s .now) (loop .i) (loop .p) (search needs) (sym (c .before .before .before .before .in-name .ensures) ∙ not-false _ (c .before .before .before .if1 .left)) (search needs) (c .if3 .left)) ∙ loop .inv
+    let args = c .before .before .before .before .before .before .before .args in
+    let loop = c .before .before .before .before .loop in
+    let inside = run-inside nameByte (args .s .now) (args .from) (omega arith) in
+    let step = again-on (args .s .now) (args .to) (args .from + loop .k) (args .at + loop .k) (omega arith) (omega arith)
+    (args .from + (loop .k + 1)) (args .at + (loop .k + 1)) (omega arith) (omega arith) (omega arith) (c .if1 .left) in
+    (sym step ∙ loop .inv .0, omega arith)
 
-returns-4 : tie.Need-returns-4 Inv-loop μ-loop
-returns-4 c =
-    let loop = c .before .loop in
-    sym (again-past (c .before .before .before .args .s .now) (loop .i) (loop .p) (c .loop-test .left)) ∙ loop .inv
+returns-2 : tie.Need-returns-2 Inv-loop μ-loop
+returns-2 c =
+    let args = c .before .before .before .before .before .args in
+    let loop = c .before .before .loop in
+    let inside = run-inside nameByte (args .s .now) (args .from) (omega arith) in
+    sym (again-short (args .s .now) (args .to) (args .from + loop .k) (args .at + loop .k) (omega arith) (omega arith) (omega arith)) ∙ loop .inv .0
+
+returns-3 : tie.Need-returns-3 Inv-loop μ-loop
+returns-3 c =
+    let args = c .before .before .before .before .before .args in
+    let loop = c .before .before .loop in
+    sym (again-ends (args .s .now) (args .to) (args .from + loop .k) (args .at + loop .k) (omega arith)) ∙ loop .inv .0
 
 pub name-again-spec : {M : Type 1} → statement M
 name-again-spec =
@@ -47,15 +60,21 @@ name-again-spec =
     (tie.spec
     Inv-loop
     μ-loop
-    (λ c. refl)
+    (λ c. search needs)
     (λ c. search needs)
     (λ c κs. search needs)
+    loop-holds
+    (λ c. search needs)
+    shared-slice-read-b
+    (λ c. search needs)
+    (λ c. search needs)
+    (λ c. search needs)
     returns
-    returns-2
-    (λ c. search needs)
-    returns-3
-    (λ c. search needs)
     (λ c. search needs)
     (λ c. search needs)
     loop-again
-    returns-4)
+    (λ c. search needs)
+    (λ c. search needs)
+    (λ c. search needs)
+    returns-2
+    returns-3)
