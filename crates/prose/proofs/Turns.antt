@@ -1,14 +1,16 @@
--- The laws of turns: what a plain byte does, where a turn leads on to, and where a text and a section end. Assumes nothing.
-use mathlib.Core.Path.{_≡_, refl, sym}
+-- The laws of turns: where no section starts, what a plain byte does, where a turn leads on to, and where a text and a section end. Assumes nothing.
+use mathlib.Core.Path.{_≡_, refl, sym, ap, _∙_}
 use mathlib.Core.Bool.{Bool, true, false, cond, not, _||_}
-use mathlib.Core.List.{List}
-use Prim.Native.Nat.{ℕ, _+_, _≤_, _<_}
+use mathlib.Core.List.{List, _∷_}
+use Prim.Native.Nat.{ℕ, suc, _+_, _≤_, _<_}
 use native.Mathlib.Omega.{arith}
 use lib.Dec.{eqb}
-use lib.ListN.{length}
+use lib.ListN.{length, drop, getD}
+use lib.Seq.{getD-take, getD-drop}
 use borrow.Author.Tests.{not-true, eqb-true, eqb-false}
-use Rattle.wire.specs.Field.{text}
+use Rattle.wire.specs.Field.{text, part}
 use Rattle.wire.proofs.Sides.{both-false}
+use Rattle.wire.proofs.Texts.{same-equal}
 use Rattle.letters.specs.Places.{byteAt, going}
 use Rattle.letters.specs.Characters.{single, widthAt}
 use Rattle.letters.specs.References.{stands, referenceAt}
@@ -18,13 +20,34 @@ use Rattle.letters.specs.declared.Turn.{Turn}
 use Rattle.letters.specs.declared.Turn.the-variants.{On, Ends, Breaks}
 use Rattle.letters.specs.declared.Reference.{Reference}
 use Rattle.letters.specs.declared.Reference.the-variants.{Stands, Nothing}
-use Rattle.letters.proofs.Scans.{byte-past, byte-there}
+use Rattle.letters.proofs.Scans.{byte-there}
 use Rattle.letters.proofs.Walks.{Onward, walk-forward, walk-shows}
-use Rattle.letters.proofs.Characters.{front-true, back-true, width-first, width-there, width-past}
+use Rattle.letters.proofs.Characters.{front-true, back-true, width-first, width-there}
 use Rattle.letters.proofs.References.{stands-there, stands-differs, reference-forward}
 use Rattle.tags.specs.Attributes.{afterReference, afterCharacter}
 use Rattle.prose.specs.Plain.{plain}
 use Rattle.prose.specs.Prose.{sectionStart, sectionEnd, sectionTurn, sectionAt, textTurn, textAt}
+
+-- ---- a section that does not start
+
+module _ (s : List ℕ) (at : ℕ) where
+  stands-second : (b c : ℕ) (word : List ℕ) → stands s at (b ∷ c ∷ word) ≡ true → byteAt s (at + 1) ≡ c
+  stands-second b c word e =
+      sym (getD-take (suc (suc (length word))) (drop at s) 1 0 (omega arith) ∙ getD-drop at s 1 0)
+      ∙ ap (λ (l : List ℕ). getD l 1 0) (same-equal (part s at (suc (suc (length word)))) (b ∷ c ∷ word) e)
+
+  -- its second byte is '!'
+  pub no-start : (byteAt s (at + 1) ≡ 33 → ⊥) → stands s at sectionStart ≡ false
+  no-start h = by-test (stands s at sectionStart) refl
+    where
+      by-test : (t : Bool) → stands s at sectionStart ≡ t → t ≡ false
+      by-test true e = absurd (h (stands-second 60 33 (text "[CDATA[") e))
+      by-test false e = refl
+
+  -- so a '<' with another byte behind it ends a text
+  pub text-sign : byteAt s at ≡ 60 → (byteAt s (at + 1) ≡ 33 → ⊥) → textTurn s at ≡ Ends at
+  unfolding textTurn
+  text-sign sign h = rw (no-start h, sign)
 
 -- ---- a plain byte
 
@@ -47,23 +70,6 @@ module _ (s : List ℕ) (i : ℕ) (e : plain (byteAt s i) ≡ true) where
   text-plain =
       let signs = both-false (eqb (byteAt s i) 60) (eqb (byteAt s i) 38) (both-false (eqb (byteAt s i) 60 || eqb (byteAt s i) 38) (eqb (byteAt s i) 93) others .0) in
       rw (signs .0, signs .1, no-end, ← (width-first s i alone))
-
--- ---- past the end
-
-module _ (s : List ℕ) (i : ℕ) (h : length s ≤ i) where
-  none-there : byteAt s i ≡ 0
-  none-there = byte-past s i h
-
-  end-differs : stands s i sectionEnd ≡ false
-  end-differs = stands-differs s i 93 (text "]>") (λ e. omega (arith, none-there))
-
-  pub section-past : sectionTurn s i ≡ Breaks i
-  unfolding sectionTurn
-  section-past = rw (end-differs, width-past s i h)
-
-  pub text-past : textTurn s i ≡ Breaks i
-  unfolding textTurn
-  text-past = rw (end-differs, width-past s i h, none-there)
 
 -- ---- where a turn leads on to
 

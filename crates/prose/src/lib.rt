@@ -3,10 +3,10 @@ use letters::Reach;
 use letters::Reference;
 use letters::Turn;
 ghost use mathlib.Core.Path.{_≡_};
-ghost use Rattle.letters.specs.Characters.{widthAt};
-ghost use Rattle.tags.specs.Attributes.{afterReference, afterCharacter};
+ghost use Rattle.letters.specs.Places.{runEnd};
+ghost use Rattle.letters.specs.References.{stands};
 ghost use Rattle.prose.specs.Plain.{plain};
-ghost use Rattle.prose.specs.Prose.{sectionTurn, sectionAt, textTurn, textAt, otherOf, plainPiece, pieceAt, saidAt, Kept};
+ghost use Rattle.prose.specs.Prose.{sectionStart, sectionEnd, sectionTurn, sectionAt, textTurn, textAt, otherOf, plainPiece, pieceAt, saidAt, Kept};
 
 // A piece of what a text says: so many bytes that stand for themselves, or one character that is written otherwise and the place after
 // it; the place after the start or the end of a section; or no piece.
@@ -23,7 +23,7 @@ pub struct Said {
     pub length: usize,
 }
 
-// ---- where a text ends
+// ---- bytes and signs
 
 // Whether a byte is a character of its own and begins nothing else: most bytes of most texts.
 fn is_plain(b: u8) -> bool
@@ -32,33 +32,52 @@ fn is_plain(b: u8) -> bool
     letters::is_single(b) & !((b == b'<') | (b == b'&') | (b == b']'))
 }
 
-fn after_reference(r: Reference, at: usize) -> Turn
-    ensures { λ t. ⌜ t ≡ afterReference r at ⌝ }
+// The place after the plain bytes that stand here.
+fn plain_end(s: &[u8], at: usize) -> usize
+    ensures { λ r. ⌜ r ≡ runEnd plain (now (s .entry)) at ⌝ }
 {
-    match r {
-        Reference::Stands(_, next) => Turn::On(next),
-        Reference::Nothing => Turn::Breaks(at),
+    let mut i = at;
+    while i < s.len() {
+        if !is_plain(s[i]) {
+            return i;
+        }
+        i += 1;
     }
+    i
 }
 
-fn after_character(s: &[u8], at: usize) -> Turn
-    ensures { λ r. ⌜ r ≡ afterCharacter (widthAt (now (s .entry)) at) at ⌝ }
+// Whether a section starts here. Its first two bytes are asked before it is compared as a whole: most '<' begin a tag.
+fn starts_section(s: &[u8], at: usize) -> bool
+    ensures { λ r. ⌜ r ≡ stands (now (s .entry)) at sectionStart ⌝ }
 {
-    let width = letters::width_at(s, at);
-    if width == 0 {
-        Turn::Breaks(at)
-    } else {
-        Turn::On(at + width)
+    if letters::byte_at(s, at) != b'<' {
+        return false;
     }
+    if letters::byte_at(s, at + 1) != b'!' {
+        return false;
+    }
+    letters::stands_at(s, at, b"<![CDATA[")
 }
+
+// Whether a section's end stands here. Most bytes are told by the first test.
+fn ends_section(s: &[u8], at: usize) -> bool
+    ensures { λ r. ⌜ r ≡ stands (now (s .entry)) at sectionEnd ⌝ }
+{
+    if letters::byte_at(s, at) != b']' {
+        return false;
+    }
+    letters::stands_at(s, at, b"]]>")
+}
+
+// ---- where a text ends
 
 fn section_turn(s: &[u8], at: usize) -> Turn
     ensures { λ r. ⌜ r ≡ sectionTurn (now (s .entry)) at ⌝ }
 {
-    if letters::stands_at(s, at, b"]]>") {
+    if ends_section(s, at) {
         return Turn::Ends(at + 3);
     }
-    after_character(s, at)
+    tags::after_character(s, at)
 }
 
 // The place after the section whose content begins here, or where its form is broken.
@@ -66,14 +85,10 @@ pub fn section_end(s: &[u8], at: usize) -> Reach
     ensures { λ r. ⌜ r ≡ sectionAt (now (s .entry)) at ⌝ }
 {
     let mut i = at;
-    while i < s.len() {
-        if is_plain(s[i]) {
-            i += 1;
-            continue;
-        }
+    loop {
         match section_turn(s, i) {
             Turn::On(next) => {
-                i = next;
+                i = plain_end(s, next);
             }
             Turn::Ends(e) => {
                 return Reach::To(e);
@@ -83,7 +98,6 @@ pub fn section_end(s: &[u8], at: usize) -> Reach
             }
         }
     }
-    Reach::Broken(i)
 }
 
 fn text_turn(s: &[u8], at: usize) -> Turn
@@ -91,7 +105,7 @@ fn text_turn(s: &[u8], at: usize) -> Turn
 {
     let b = letters::byte_at(s, at);
     if b == b'<' {
-        if !letters::stands_at(s, at, b"<![CDATA[") {
+        if !starts_section(s, at) {
             return Turn::Ends(at);
         }
         return match section_end(s, at + 9) {
@@ -100,27 +114,23 @@ fn text_turn(s: &[u8], at: usize) -> Turn
         };
     }
     if b == b'&' {
-        return after_reference(letters::reference_at(s, at), at);
+        return tags::after_reference(s, at);
     }
-    if letters::stands_at(s, at, b"]]>") {
+    if ends_section(s, at) {
         return Turn::Breaks(at);
     }
-    after_character(s, at)
+    tags::after_character(s, at)
 }
 
-// The '<' that ends the text which begins here, or where its form is broken. Most turns are one plain byte, and cost one test.
-pub fn text_end(s: &[u8], at: usize) -> Reach
+// The same as `text_end`, turn by turn.
+fn rest_end(s: &[u8], at: usize) -> Reach
     ensures { λ r. ⌜ r ≡ textAt (now (s .entry)) at ⌝ }
 {
     let mut i = at;
-    while i < s.len() {
-        if is_plain(s[i]) {
-            i += 1;
-            continue;
-        }
+    loop {
         match text_turn(s, i) {
             Turn::On(next) => {
-                i = next;
+                i = plain_end(s, next);
             }
             Turn::Ends(e) => {
                 return Reach::To(e);
@@ -130,7 +140,20 @@ pub fn text_end(s: &[u8], at: usize) -> Reach
             }
         }
     }
-    Reach::Broken(i)
+}
+
+// The '<' that ends the text which begins here, or where its form is broken. Most texts are plain bytes up to a tag, and cost one test
+// for each.
+pub fn text_end(s: &[u8], at: usize) -> Reach
+    ensures { λ r. ⌜ r ≡ textAt (now (s .entry)) at ⌝ }
+{
+    let i = plain_end(s, at);
+    if letters::byte_at(s, i) == b'<' {
+        if letters::byte_at(s, i + 1) != b'!' {
+            return Reach::To(i);
+        }
+    }
+    rest_end(s, i)
 }
 
 // ---- what a text says
@@ -166,14 +189,14 @@ fn piece_at(inside: bool, s: &[u8], at: usize) -> Piece
     ensures { λ r. ⌜ r ≡ pieceAt inside (now (s .entry)) at ⌝ }
 {
     if inside {
-        if letters::stands_at(s, at, b"]]>") {
+        if ends_section(s, at) {
             return Piece::Turns(at + 3);
         }
         return plain_piece(s, at);
     }
     let b = letters::byte_at(s, at);
     if b == b'<' {
-        if letters::stands_at(s, at, b"<![CDATA[") {
+        if starts_section(s, at) {
             return Piece::Turns(at + 9);
         }
         return Piece::Silent;

@@ -8,35 +8,50 @@ use borrow.Author.Needs.{needs}
 use Rattle.prose.proofs.piece_at.Statement.{statement}
 use Rattle.prose.proofs.piece_at.Tie as tie
 
-add-t11 : tie.Need-add-t11
-add-t11 c = omega (arith, stands-there (c .before .before .before .before .before .args .s .now) (c .before .before .before .before .before .args .at) sectionEnd (sym (c .before .stands-at .ensures) ∙ c .if2 .taken) (omega arith))
+add-t7 : tie.Need-add-t7
+add-t7 c =
+    let args = c .before .before .before .before .args in
+    omega (arith, stands-there (args .s .now) (args .at) sectionEnd (sym (c .before .ends-section .ensures) ∙ c .if2 .taken) (omega arith))
 
 returns : tie.Need-returns
 unfolding pieceAt
-returns c = rw (c .before .before .before .if1 .taken, sym (c .before .stands-at .ensures) ∙ c .if2 .taken)
+returns c = rw (c .before .before .if1 .taken, sym (c .before .ends-section .ensures) ∙ c .if2 .taken)
 
 returns-2 : tie.Need-returns-2
 unfolding pieceAt
-returns-2 c = rw (c .before .before .before .before .if1 .taken, sym (c .before .before .stands-at .ensures) ∙ c .before .if2 .left) (c .plain-piece .ensures)
+returns-2 c = rw (c .before .before .before .if1 .taken, sym (c .before .before .ends-section .ensures) ∙ c .before .if2 .left) (c .plain-piece .ensures)
 
-add-t15 : tie.Need-add-t15
-add-t15 c = omega (arith, stands-there (c .before .before .before .before .before .before .before .args .s .now) (c .before .before .before .before .before .before .before .args .at) sectionStart (sym (c .before .stands-at2 .ensures) ∙ c .if4 .taken) (omega arith))
+add-t9 : tie.Need-add-t9
+add-t9 c =
+    let args = c .before .before .before .before .before .before .args in
+    omega (arith, stands-there (args .s .now) (args .at) sectionStart (sym (c .before .starts-section .ensures) ∙ c .if4 .taken) (omega arith))
 
 returns-3 : tie.Need-returns-3
 unfolding pieceAt
-returns-3 c = rw (c .before .before .before .before .before .if1 .left, ← (c .before .before .before .before .byte-at .ensures), eq-eqb (c .before .before .before .before .byte-at .result) 60 (c .before .before .before .if3 .taken), sym (c .before .stands-at2 .ensures) ∙ c .if4 .taken)
+returns-3 c =
+    let byte = c .before .before .before .byte-at in
+    rw (c .before .before .before .before .if1 .left, ← (byte .ensures), eq-eqb (byte .result) 60 (c .before .before .if3 .taken), sym (c .before .starts-section .ensures) ∙ c .if4 .taken)
 
 returns-4 : tie.Need-returns-4
 unfolding pieceAt
-returns-4 c = rw (c .before .before .before .before .before .if1 .left, ← (c .before .before .before .before .byte-at .ensures), eq-eqb (c .before .before .before .before .byte-at .result) 60 (c .before .before .before .if3 .taken), sym (c .before .stands-at2 .ensures) ∙ c .if4 .left)
+returns-4 c =
+    let byte = c .before .before .before .byte-at in
+    rw (c .before .before .before .before .if1 .left, ← (byte .ensures), eq-eqb (byte .result) 60 (c .before .before .if3 .taken), sym (c .before .starts-section .ensures) ∙ c .if4 .left)
 
 returns-5 : tie.Need-returns-5
 unfolding pieceAt
-returns-5 c = rw (c .before .before .before .before .before .if1 .left, ← (c .before .before .before .before .byte-at .ensures), ne-eqb (c .before .before .before .before .byte-at .result) 60 (c .before .before .before .if3 .left), eq-eqb (c .before .before .before .before .byte-at .result) 38 (c .before .before .if5 .taken), ← (c .before .reference-at .ensures)) (c .other-of .ensures)
+returns-5 c =
+    let byte = c .before .before .before .before .byte-at in
+    rw (c .before .before .before .before .before .if1 .left, ← (byte .ensures), ne-eqb (byte .result) 60 (c .before .before .before .if3 .left), eq-eqb (byte .result) 38 (c .before .before .if5 .taken), ← (c .before .reference-at .ensures)) (c .other-of .ensures)
 
 returns-6 : tie.Need-returns-6
 unfolding pieceAt
-returns-6 c = rw (c .before .before .before .before .if1 .left, ne-eqb _ 60 (λ h. c .before .before .if3 .left (c .before .before .before .byte-at .ensures ∙ h)), ne-eqb _ 38 (λ h. c .before .if5 .left (c .before .before .before .byte-at .ensures ∙ h))) (c .plain-piece2 .ensures)
+returns-6 c =
+    let byte = c .before .before .before .byte-at in
+    rw (c .before .before .before .before .if1 .left, ne-eqb _ 60 (λ h. c .before .before .if3 .left (byte .ensures ∙ h)), ne-eqb _ 38 (λ h. c .before .if5 .left (byte .ensures ∙ h))) (c .plain-piece2 .ensures)
 
 pub piece-at-spec : {M : Type 1} → statement M
-piece-at-spec = tie.close (tie.spec (λ c. search needs) (λ c κs. search needs) add-t11 returns (λ c κs. search needs) returns-2 (λ c κs. search needs) (λ c. search needs) (λ c κs. search needs) add-t15 returns-3 returns-4 (λ c κs. search needs) (λ c κs. search needs) returns-5 (λ c κs. search needs) returns-6)
+piece-at-spec =
+    tie.close
+    (tie.spec (λ c κs. search needs) add-t7 returns (λ c κs. search needs) returns-2 (λ c κs. search needs) (λ c κs. search needs) add-t9
+    returns-3 returns-4 (λ c κs. search needs) (λ c κs. search needs) returns-5 (λ c κs. search needs) returns-6)

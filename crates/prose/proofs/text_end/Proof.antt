@@ -1,55 +1,33 @@
--- `prose::text_end` meets its contract: what is left from the place reached on comes to what the whole comes to. Assumes nothing.
-use mathlib.Core.Path.{_≡_, refl, sym, _∙_}
-use Prim.Native.Nat.{_+_, _-_}
+-- `prose::text_end` meets its contract: a tag after plain bytes ends them, and else the rest is left. Assumes nothing.
+use mathlib.Core.Path.{_≡_, sym, _∙_}
 use native.Mathlib.Omega.{arith}
-use lib.ListN.{length}
-use Rattle.letters.specs.Places.{walk}
-use Rattle.letters.specs.declared.Turn.the-variants.{On, Ends, Breaks}
-use Rattle.letters.proofs.Walks.{walk-turn}
-use Rattle.prose.specs.Prose.{textTurn, textAt}
-use Rattle.prose.proofs.Turns.{text-plain, text-past, text-onward}
+use Rattle.letters.specs.Places.{byteAt}
+use Rattle.letters.proofs.Scans.{byte-there}
+use Rattle.prose.proofs.Runs.{text-left, text-tag}
 use borrow.Author.Needs.{needs}
 use Rattle.prose.proofs.text_end.Statement.{statement}
 use Rattle.prose.proofs.text_end.Tie as tie
 
-abbrev Inv-loop : tie.InvT-loop
-Inv-loop s at i₀ i = walk (textTurn s) s i ≡ textAt s at
+add-byte-at : tie.Need-add-byte-at
+add-byte-at c =
+    let s = c .before .before .before .before .args .s .now in
+    let i = c .before .before .plain-end .result in
+    let sign : byteAt s i ≡ 60 = sym (c .before .byte-at .ensures) ∙ c .if1 .taken in
+    omega (arith, byte-there s i (omega arith))
 
-abbrev μ-loop : tie.MeasureT-loop
-μ-loop s at i₀ i = length s - i
-
-loop-holds : tie.Need-loop-holds Inv-loop μ-loop
-unfolding textAt
-loop-holds c = refl
-
-loop-again : tie.Need-loop-again Inv-loop μ-loop
-loop-again c =
-    let s = c .before .before .before .before .before .before .args .s .now in
-    let loop = c .before .before .before .before .loop in
-    sym (walk-turn (textTurn s) s (text-onward s) (loop .i) (On (loop .i + 1)) (text-plain s (loop .i) (sym (c .before .is-plain .ensures) ∙ c .if1 .taken))) ∙ loop .inv
-
-loop-less-2 : tie.Need-loop-less-2 Inv-loop μ-loop
-loop-less-2 c = omega (arith, text-onward (c .before .before .before .before .before .before .before .before .before .before .args .s .now) .forward (c .before .before .before .before .before .before .before .before .loop .i) (c .before .next .given .0 .0) (sym (c .before .before .before .text-turn .ensures) ∙ c .before .next .given .1))
-
-loop-again-2 : tie.Need-loop-again-2 Inv-loop μ-loop
-loop-again-2 c =
-    let s = c .before .before .before .before .before .before .before .before .before .before .args .s .now in
-    sym (walk-turn (textTurn s) s (text-onward s) (c .before .before .before .before .before .before .before .before .loop .i) (On (c .before .next .given .0 .0)) (sym (c .before .before .before .text-turn .ensures) ∙ c .before .next .given .1)) ∙ c .before .before .before .before .before .before .before .before .loop .inv
-
-returns : tie.Need-returns Inv-loop μ-loop
+returns : tie.Need-returns
 returns c =
-    let s = c .before .before .before .before .before .before .before .before .before .before .args .s .now in
-    sym (walk-turn (textTurn s) s (text-onward s) (c .before .before .before .before .before .before .before .before .loop .i) (Ends (c .before .e .given .0 .0)) (sym (c .before .before .before .text-turn .ensures) ∙ c .before .e .given .1)) ∙ c .before .before .before .before .before .before .before .before .loop .inv
+    let args = c .before .before .before .before .before .before .args in
+    let plain = c .before .before .before .before .plain-end in
+    text-tag (args .s .now) (args .at) (plain .result) (plain .ensures) (sym (c .before .before .before .byte-at .ensures) ∙ c .before .before .if1 .taken)
+    (λ e. c .if2 .taken (c .before .byte-at2 .ensures ∙ e))
 
-returns-2 : tie.Need-returns-2 Inv-loop μ-loop
+returns-2 : tie.Need-returns-2
 returns-2 c =
-    let s = c .before .before .before .before .before .before .before .before .before .before .args .s .now in
-    sym (walk-turn (textTurn s) s (text-onward s) (c .before .before .before .before .before .before .before .before .loop .i) (Breaks (c .before .p .given .0 .0)) (sym (c .before .before .before .text-turn .ensures) ∙ c .before .p .given .1)) ∙ c .before .before .before .before .before .before .before .before .loop .inv
-
-returns-3 : tie.Need-returns-3 Inv-loop μ-loop
-returns-3 c =
-    let s = c .before .before .before .args .s .now in
-    sym (walk-turn (textTurn s) s (text-onward s) (c .before .loop .i) (Breaks (c .before .loop .i)) (text-past s (c .before .loop .i) (c .loop-test .left))) ∙ c .before .loop .inv
+    let args = c .before .before .before .before .before .args in
+    let plain = c .before .before .before .plain-end in
+    c .rest-end .ensures ∙ text-left (args .s .now) (args .at) (plain .result) (plain .ensures)
 
 pub text-end-spec : {M : Type 1} → statement M
-text-end-spec = tie.close (tie.spec Inv-loop μ-loop loop-holds (λ c. search needs) (λ c κs. search needs) (λ c. search needs) (λ c. search needs) loop-again (λ c κs. search needs) (λ c. search needs) loop-less-2 loop-again-2 (λ c. search needs) returns (λ c. search needs) returns-2 returns-3)
+text-end-spec =
+    tie.close (tie.spec (λ c κs. search needs) (λ c κs. search needs) add-byte-at (λ c κs. search needs) returns (λ c κs. search needs) returns-2)
