@@ -1,4 +1,5 @@
 pub mod Turns
 pub mod Pieces
 pub mod Runs
+pub mod Straight
 mod Sayings

@@ -52,11 +52,15 @@ module _ (s : List ℕ) (at : ℕ) where
 -- ---- a plain byte
 
 module _ (s : List ℕ) (i : ℕ) (e : plain (byteAt s i) ≡ true) where
-  alone : single (byteAt s i) ≡ true
+  pub alone : single (byteAt s i) ≡ true
   alone = front-true (single (byteAt s i)) (not (eqb (byteAt s i) 60 || eqb (byteAt s i) 38 || eqb (byteAt s i) 93)) e
 
   others : ((eqb (byteAt s i) 60 || eqb (byteAt s i) 38) || eqb (byteAt s i) 93) ≡ false
   others = not-true _ (back-true (single (byteAt s i)) (not (eqb (byteAt s i) 60 || eqb (byteAt s i) 38 || eqb (byteAt s i) 93)) e)
+
+  pub unsigned : (eqb (byteAt s i) 60 ≡ false) × (eqb (byteAt s i) 38 ≡ false)
+  unsigned =
+      both-false (eqb (byteAt s i) 60) (eqb (byteAt s i) 38) (both-false (eqb (byteAt s i) 60 || eqb (byteAt s i) 38) (eqb (byteAt s i) 93) others .0)
 
   no-end : stands s i sectionEnd ≡ false
   no-end = stands-differs s i 93 (text "]>") (eqb-false (byteAt s i) 93 (both-false (eqb (byteAt s i) 60 || eqb (byteAt s i) 38) (eqb (byteAt s i) 93) others .1))
@@ -67,9 +71,7 @@ module _ (s : List ℕ) (i : ℕ) (e : plain (byteAt s i) ≡ true) where
 
   pub text-plain : textTurn s i ≡ On (i + 1)
   unfolding textTurn
-  text-plain =
-      let signs = both-false (eqb (byteAt s i) 60) (eqb (byteAt s i) 38) (both-false (eqb (byteAt s i) 60 || eqb (byteAt s i) 38) (eqb (byteAt s i) 93) others .0) in
-      rw (signs .0, signs .1, no-end, ← (width-first s i alone))
+  text-plain = rw (unsigned .0, unsigned .1, no-end, ← (width-first s i alone))
 
 -- ---- where a turn leads on to
 

@@ -5,7 +5,7 @@ use letters::Turn;
 ghost use mathlib.Core.Path.{_≡_};
 ghost use Rattle.letters.specs.Places.{runEnd};
 ghost use Rattle.letters.specs.References.{stands};
-ghost use Rattle.prose.specs.Plain.{plain};
+ghost use Rattle.prose.specs.Plain.{plain, straight};
 ghost use Rattle.prose.specs.Prose.{sectionStart, sectionEnd, sectionTurn, sectionAt, textTurn, textAt, otherOf, plainPiece, pieceAt, saidAt, Kept};
 
 // A piece of what a text says: so many bytes that stand for themselves, or one character that is written otherwise and the place after
@@ -157,6 +157,27 @@ pub fn text_end(s: &[u8], at: usize) -> Reach
 }
 
 // ---- what a text says
+
+// Whether a byte is plain and says itself, which a carriage return does not.
+fn is_straight(b: u8) -> bool
+    ensures { λ r. ⌜ r ≡ straight b ⌝ }
+{
+    is_plain(b) & !(b == 13)
+}
+
+// The place after the straight bytes that stand here. Where a tag follows them, they are what the text says.
+pub fn straight_end(s: &[u8], at: usize) -> usize
+    ensures { λ r. ⌜ r ≡ runEnd straight (now (s .entry)) at ⌝ }
+{
+    let mut i = at;
+    while i < s.len() {
+        if !is_straight(s[i]) {
+            return i;
+        }
+        i += 1;
+    }
+    i
+}
 
 fn other_of(r: Reference) -> Piece
     ensures { λ t. ⌜ t ≡ otherOf r ⌝ }
