@@ -9,7 +9,7 @@ use lib.Dec.{eqb}
 use lib.ListN.{length, take, replicate, length-take}
 use lib.Seq.{sets, take-all, take-take, take-append-le}
 use borrow.Author.Tests.{eq-eqb, ne-eqb, eqb-true}
-use Rattle.wire.specs.Field.{text, same}
+use Rattle.wire.specs.Field.{same}
 use Rattle.wire.proofs.Numbers.{bytes-length}
 use Rattle.wire.proofs.Sides.{le-or-lt}
 use Rattle.wire.proofs.Texts.{same-short}
@@ -18,7 +18,7 @@ use Rattle.meanings.specs.declared.Meant.{Meant}
 use Rattle.meanings.specs.declared.Meant.the-variants.{Is, Nothing}
 use Rattle.meanings.proofs.Fills.{filled-length, receiver-length, other-receiver}
 use Rattle.paths.specs.Roles as roles
-use Rattle.fields.specs.Fields.{widthOf, fieldWidth, meantBytes, fieldBytes, isClearing, isSystem}
+use Rattle.fields.specs.Fields.{widthOf, fieldWidth, meantBytes, fieldBytes}
 use Rattle.fields.proofs.Forms.{width-small, long-number, long-date, long-amount}
 
 -- ---- how many
@@ -96,19 +96,11 @@ field-cut role t = ⊎-elim
     (λ (h : 35 < length t). long-cut t h role)
     (le-or-lt (length t) 35)
 
-same-cut : (t w : List ℕ) → length w < 35 → same (take 35 t) w ≡ same t w
+pub same-cut : (t w : List ℕ) → length w < 35 → same (take 35 t) w ≡ same t w
 same-cut t w short = ⊎-elim
     (λ (h : length t ≤ 35). ap (λ (r : List ℕ). same r w) (take-all 35 t h))
     (λ (h : 35 < length t). long-same t h w short)
     (le-or-lt (length t) 35)
-
-pub clearing-cut : (t : List ℕ) → same (take 35 t) (text "CLRG") ≡ isClearing t
-unfolding isClearing
-clearing-cut t = same-cut t (text "CLRG") (omega arith)
-
-pub system-cut : (t : List ℕ) → same (take 35 t) (text "EKS") ≡ isSystem t
-unfolding isSystem
-system-cut t = same-cut t (text "EKS") (omega arith)
 
 -- ---- stored
 
