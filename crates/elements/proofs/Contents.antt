@@ -20,7 +20,7 @@ use Rattle.elements.specs.declared.Step.the-variants.{Done, Form, Deep}
 use Rattle.elements.specs.Forest.{Forest, none, tree, beside, countOf}
 use Rattle.elements.specs.Grammar.{Parsed, read, broken, deep, onRead, contentBy}
 use Rattle.elements.specs.Notes.{noting, noted, stepOf, Noted, bumped}
-use Rattle.elements.proofs.Forests.{beside-none, beside-beside, count-beside, noted-beside, set-past}
+use Rattle.elements.proofs.Forests.{zeros, nothing-yet, further, beside-none, count-beside, noted-beside, set-past}
 use Rattle.elements.proofs.Forward.{Onward, Shape, stepped, one, content-broken, content-ends, content-child}
 
 -- ---- what a step tells of what was read
@@ -62,14 +62,9 @@ pub counted-lacks : (role : ℕ) (counts : List ℕ) (f : Forest) → Counted co
 counted-lacks role counts f h = lacks-alike (λ k. getD counts k 0) (countOf f) role (λ k low. ap (λ (n : ℕ). eqb n 1) (h k low) ∙ once-alike (countOf f k))
 
 -- nothing was counted
-zeros-below : (n k : ℕ) → getD {A = ℕ} (replicate n 0) k 0 ≡ 0
-zeros-below zero k = refl
-zeros-below (suc n) zero = refl
-zeros-below (suc n) (suc k) = zeros-below n k
-
 pub zeros-counted : Counted (replicate roles.roles 0) none
 unfolding countOf
-zeros-counted k low = zeros-below roles.roles k ∙ (omega arith)
+zeros-counted k low = zeros roles.roles k ∙ (omega arith)
 
 count-one : (role place : ℕ) (inner : Forest) (k : ℕ) → countOf (tree role place inner none) k ≡ cond (eqb (roles.countsAs role) k) 1 0
 unfolding countOf
@@ -106,12 +101,6 @@ pub record Reading (element : ℕ → ℕ → Parsed) (s : List ℕ) (role at i 
   pub counted : Counted counts sofar
 
 module _ (element : ℕ → ℕ → Parsed) (s : List ℕ) (role at : ℕ) (first : List ℕ) where
-  nothing-yet : (r : Parsed) → r ≡ onRead r (λ e g. read e (beside none g))
-  unfolding beside
-  nothing-yet (read e g) = refl
-  nothing-yet (broken p) = refl
-  nothing-yet (deep p) = refl
-
   pub reading-starts : Reading element s role at at first first (replicate roles.roles 0)
   unfolding noted
   reading-starts = record { sofar = none; comes = nothing-yet (contentBy element role s at); notes-are = refl; size = refl; counted = zeros-counted }
@@ -126,11 +115,6 @@ module _ (element : ℕ → ℕ → Parsed) (s : List ℕ) (role at : ℕ) (firs
     pub reading-stops : (j : ℕ) (r : Parsed) → textAt s i ≡ To j → (byteAt s (j + 1) ≡ 47 → ⊥) → element (childRole role (nameAt s (j + 1))) j ≡ r
         → contentBy element role s at ≡ onRead (onRead r (λ next f. onRead (contentBy element role s next) (λ e g. read e (beside f g)))) (λ e g. read e (beside (reading .sofar) g))
     reading-stops j r e h k = reading .comes ∙ (rw (content-child element role s onward i j r e h k))
-
-    further : (sofar f : Forest) (r : Parsed) → onRead (onRead r (λ e g. read e (beside f g))) (λ e g. read e (beside sofar g)) ≡ onRead r (λ e g. read e (beside (beside sofar f) g))
-    further sofar f (read e g) = ap (λ (h : Forest). read e h) (sym (beside-beside sofar f g))
-    further sofar f (broken p) = refl
-    further sofar f (deep p) = refl
 
     pub reading-on : (j next : ℕ) (f : Forest) (after : List ℕ) → textAt s i ≡ To j → (byteAt s (j + 1) ≡ 47 → ⊥)
         → element (childRole role (nameAt s (j + 1))) j ≡ read next f → Shape (childRole role (nameAt s (j + 1))) f → after ≡ noted f notes

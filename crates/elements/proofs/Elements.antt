@@ -6,7 +6,7 @@ use Prim.Native.Nat.{ℕ, zero, suc, _+_, _-_, _≤_, _<_}
 use native.Mathlib.Omega.{arith}
 use lib.Dec.{eqb, leb, ltb}
 use lib.ListN.{length}
-use borrow.Author.Tests.{eqb-true, eqb-false, le-leb, lt-leb}
+use borrow.Author.Tests.{eqb-true, eqb-false, le-leb, lt-leb, le-ltb}
 use Rattle.letters.specs.Places.{byteAt}
 use Rattle.letters.specs.declared.Reach.{Reach}
 use Rattle.letters.specs.declared.Reach.the-variants.{To, Broken}
@@ -53,6 +53,17 @@ module _ (s : List ℕ) (role at : ℕ) where
   unfolding elementAt
   element-group zero some h = absurd (some refl)
   element-group (suc depth) some h = let less : suc depth - 1 ≡ depth = omega arith in rw (lt-leb roles.bulkIdentifier role h, less)
+
+-- ---- where the text has ended
+
+pub element-past : (depth : ℕ) (s : List ℕ) (role at : ℕ) → length s ≤ at → elementAt depth s role at ≡ broken at
+unfolding elementAt startAt fieldAt
+element-past zero s role at past = rw (le-ltb at (length s) past)
+element-past (suc depth) s role at past = rw (le-ltb at (length s) past) (by-test (roles.isField role))
+  where
+    by-test : (t : Bool) → cond t (broken at) (broken at) ≡ broken at
+    by-test true = refl
+    by-test false = refl
 
 -- ---- what is stepped over holds nothing that is noted
 

@@ -22,6 +22,10 @@ step-closed : (r : Reach) (f : Forest) → stepOf (onReached r (λ n. read n f))
 step-closed (To n) f = refl
 step-closed (Broken p) f = refl
 
+-- the place at which the name ends is known
+pub known-from : (role : ℕ) (s : List ℕ) (to from end : ℕ) (b : Bool) → to ≡ from → inEuros role s to end ≡ b → inEuros role s from end ≡ b
+known-from role s to from end b same h = rw same at h
+
 module _ (role : ℕ) (s : List ℕ) (at inside : ℕ) where
   pub filled-to : (e : ℕ) → textAt s inside ≡ To e → fits role (saidAt s inside) ≡ true → stepOf (filledField role s at inside) ≡ closedBy (endAt s at e)
   unfolding filledField

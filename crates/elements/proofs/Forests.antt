@@ -5,13 +5,19 @@ use mathlib.Core.List.{List, [], _∷_, _++_}
 use Prim.Native.Nat.{ℕ, zero, suc, _+_, _≤_, _<_}
 use native.Mathlib.Omega.{arith}
 use lib.Dec.{eqb, ltb}
-use lib.ListN.{length, drop, set, replicate, length-set}
+use lib.ListN.{length, drop, getD, set, replicate, length-set}
 use Rattle.paths.specs.Roles as roles
 use Rattle.paths.specs.Table.{lacks}
 use Rattle.elements.specs.Forest.{Forest, none, tree, beside, countOf}
+use Rattle.elements.specs.Grammar.{Parsed, read, broken, deep, onRead}
 use Rattle.elements.specs.Notes.{lackNote, messagesNote, counted, warned, placed, noting, noted}
 
--- ---- a note past the end
+-- ---- notes and counts at their start, and past their end
+
+pub zeros : (n k : ℕ) → getD {A = ℕ} (replicate n 0) k 0 ≡ 0
+zeros zero k = refl
+zeros (suc n) zero = refl
+zeros (suc n) (suc k) = zeros n k
 
 pub set-past : (s : List ℕ) (k v : ℕ) → length s ≤ k → set s k v ≡ s
 set-past [] k v h = refl
@@ -29,6 +35,18 @@ pub beside-beside : (f g h : Forest) → beside (beside f g) h ≡ beside f (bes
 unfolding beside
 beside-beside none g h = refl
 beside-beside (tree role place inner rest) g h = ap (λ (r : Forest). tree role place inner r) (beside-beside rest g h)
+
+-- what is read with nothing before it, and with two parts before it
+pub nothing-yet : (r : Parsed) → r ≡ onRead r (λ e g. read e (beside none g))
+unfolding beside
+nothing-yet (read e g) = refl
+nothing-yet (broken p) = refl
+nothing-yet (deep p) = refl
+
+pub further : (sofar f : Forest) (r : Parsed) → onRead (onRead r (λ e g. read e (beside f g))) (λ e g. read e (beside sofar g)) ≡ onRead r (λ e g. read e (beside (beside sofar f) g))
+further sofar f (read e g) = ap (λ (h : Forest). read e h) (sym (beside-beside sofar f g))
+further sofar f (broken p) = refl
+further sofar f (deep p) = refl
 
 pub count-beside : (f g : Forest) (k : ℕ) → countOf (beside f g) k ≡ countOf f k + countOf g k
 unfolding beside countOf

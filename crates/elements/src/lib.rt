@@ -115,7 +115,17 @@ fn count(counts: &mut [u8], role: usize)
     }
 }
 
-// ---- parts of an element
+// Notes a group, of whose children is known how often each role was counted.
+fn note_group(notes: &mut [usize], role: usize, place: usize, counts: &[u8])
+    ensures { λ _. ⌜ now (notes .exit) ≡ noting role place (lacks role (λ k. getD (now (counts .entry)) k 0)) (now (notes .entry)) ⌝ }
+{
+    if role == paths::OTHER {
+        return;
+    }
+    note(notes, role, place, paths::lacking(role, counts));
+}
+
+// ---- parts of an element: of each is known where its name ends, so that no name is looked through twice
 
 // What stands where no level is left: a start tag is too deep.
 fn too_deep(s: &[u8], at: usize) -> Step
@@ -131,44 +141,46 @@ fn too_deep(s: &[u8], at: usize) -> Step
 }
 
 // The end tag of the element that begins at place at.
-fn close(s: &[u8], at: usize, end: usize) -> Step
+fn close(s: &[u8], at: usize, to: usize, end: usize) -> Step
+    requires { ⌜ to ≡ nameEnd (now s) (at + 1) ⌝ }
     ensures { λ r. ⌜ r ≡ closedBy (endAt (now (s .entry)) at end) ⌝ }
 {
-    match tags::end(s, at, end) {
+    match tags::end_from(s, at, to, end) {
         Reach::To(n) => Step::Done(n),
         Reach::Broken(p) => Step::Form(p),
     }
 }
 
 // The role of the child whose name stands at a place.
-fn child_of(s: &[u8], role: usize, at: usize) -> usize
+fn child_of(s: &[u8], role: usize, at: usize, to: usize) -> usize
+    requires { ⌜ to ≡ nameEnd (now s) at ⌝ }
     ensures { λ r. ⌜ r ≡ childRole role (nameAt (now (s .entry)) at) ⌝ }
 {
     if role == paths::OTHER {
         return paths::OTHER;
     }
-    paths::child_role(role, tags::name_at(s, at))
+    paths::child_role(role, wire::text_at(s, at, to - at))
 }
 
 // Whether the tag of a field says euros, if it is an amount's.
-fn currency(s: &[u8], at: usize, role: usize, end: usize) -> bool
-    requires { ⌜ at < length (now s) ⌝ }
-    ensures { λ r. ⌜ r ≡ inEuros role (now (s .entry)) (nameEnd (now (s .entry)) (at + 1)) end ⌝ }
+fn currency(s: &[u8], role: usize, from: usize, end: usize) -> bool
+    ensures { λ r. ⌜ r ≡ inEuros role (now (s .entry)) from end ⌝ }
 {
     if !paths::is_amount(role) {
         return true;
     }
-    tags::in_euros(s, tags::name_end(s, at + 1), end)
+    tags::in_euros(s, from, end)
 }
 
 // A field's text and end tag.
-fn filled_field(s: &[u8], at: usize, role: usize, inside: usize) -> Step
+fn filled_field(s: &[u8], at: usize, to: usize, role: usize, inside: usize) -> Step
+    requires { ⌜ to ≡ nameEnd (now s) (at + 1) ⌝ }
     ensures { λ r. ⌜ r ≡ stepOf (filledField role (now (s .entry)) at inside) ⌝ }
 {
     match prose::text_end(s, inside) {
         Reach::To(e) => {
             if fields::fits_at(role, s, inside) {
-                close(s, at, e)
+                close(s, at, to, e)
             } else {
                 Step::Form(e)
             }
@@ -178,21 +190,22 @@ fn filled_field(s: &[u8], at: usize, role: usize, inside: usize) -> Step
 }
 
 // A field's element: its tag, its text and its end tag.
-fn field(s: &[u8], at: usize, role: usize, notes: &mut [usize]) -> Step
+fn field(s: &[u8], at: usize, to: usize, role: usize, notes: &mut [usize]) -> Step
+    requires { ⌜ to ≡ nameEnd (now s) (at + 1) ⌝ }
     requires { ⌜ bulkIdentifier ≤ role ⌝ }
     ensures step { λ r. ⌜ r ≡ stepOf (fieldAt role (now (s .entry)) at (startAt (now (s .entry)) at)) ⌝ }
     ensures notes { λ _. ⌜ Noted (fieldAt role (now (s .entry)) at (startAt (now (s .entry)) at)) (now (notes .entry)) (now (notes .exit)) ⌝ }
 {
-    match tags::start(s, at) {
+    match tags::start_from(s, at, to) {
         Tag::Open(end, inside) => {
-            if !currency(s, at, role, end) {
+            if !currency(s, role, to, end) {
                 return Step::Form(end);
             }
             note(notes, role, inside, false);
-            filled_field(s, at, role, inside)
+            filled_field(s, at, to, role, inside)
         }
         Tag::Empty(end, next) => {
-            if !currency(s, at, role, end) {
+            if !currency(s, role, to, end) {
                 return Step::Form(end);
             }
             if !fields::fits_empty(role) {
@@ -212,11 +225,12 @@ fn note_bare(notes: &mut [usize], role: usize, place: usize)
     ensures { λ _. ⌜ now (notes .exit) ≡ noting role place (lacks role (countOf none)) (now (notes .entry)) ⌝ }
 {
     let counts = [0u8; 34];
-    note(notes, role, place, paths::lacking(role, &counts));
+    note_group(notes, role, place, &counts);
 }
 
 // An element that plays a role, with so many levels left for it and what it holds.
-fn element(s: &[u8], at: usize, depth: usize, role: usize, notes: &mut [usize]) -> Step
+fn element(s: &[u8], at: usize, to: usize, depth: usize, role: usize, notes: &mut [usize]) -> Step
+    requires { ⌜ to ≡ nameEnd (now s) (at + 1) ⌝ }
     ensures step { λ r. ⌜ r ≡ stepOf (elementAt depth (now (s .entry)) role at) ⌝ }
     ensures notes { λ _. ⌜ Noted (elementAt depth (now (s .entry)) role at) (now (notes .entry)) (now (notes .exit)) ⌝ }
 {
@@ -224,11 +238,11 @@ fn element(s: &[u8], at: usize, depth: usize, role: usize, notes: &mut [usize]) 
         return too_deep(s, at);
     }
     if paths::BULK_IDENTIFIER <= role {
-        return field(s, at, role, notes);
+        return field(s, at, to, role, notes);
     }
-    match tags::start(s, at) {
+    match tags::start_from(s, at, to) {
         Tag::Open(_, inside) => match content(s, inside, depth - 1, role, at, notes) {
-            Step::Done(e) => close(s, at, e),
+            Step::Done(e) => close(s, at, to, e),
             Step::Form(p) => Step::Form(p),
             Step::Deep(p) => Step::Deep(p),
         },
@@ -261,11 +275,12 @@ fn content(
             }
             Reach::To(j) => {
                 if letters::byte_at(s, j + 1) == b'/' {
-                    note(notes, role, place, paths::lacking(role, &counts));
+                    note_group(notes, role, place, &counts);
                     return Step::Done(j);
                 }
-                let child = child_of(s, role, j + 1);
-                match element(s, j, depth, child, notes) {
+                let to = tags::name_end(s, j + 1);
+                let child = child_of(s, role, j + 1, to);
+                match element(s, j, to, depth, child, notes) {
                     Step::Done(n) => {
                         count(&mut counts, child);
                         i = n;
@@ -295,12 +310,16 @@ fn clear(notes: &mut [usize])
     }
 }
 
-// Reads an element as above. Where it is not of the form, or too deep, the notes are 0.
+// Reads an element as above, at any place. Where it is not of the form, or too deep, the notes are 0.
 pub fn read_element(s: &[u8], at: usize, depth: usize, role: usize, notes: &mut [usize]) -> Step
     ensures step { λ r. ⌜ r ≡ stepOf (elementAt depth (now (s .entry)) role at) ⌝ }
     ensures notes { λ _. ⌜ now (notes .exit) ≡ notesOf (elementAt depth (now (s .entry)) role at) (now (notes .entry)) ⌝ }
 {
-    match element(s, at, depth, role, notes) {
+    if s.len() <= at {
+        clear(notes);
+        return Step::Form(at);
+    }
+    match element(s, at, tags::name_end(s, at + 1), depth, role, notes) {
         Step::Done(n) => Step::Done(n),
         Step::Form(p) => {
             clear(notes);

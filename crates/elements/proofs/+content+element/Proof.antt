@@ -24,13 +24,13 @@ use Rattle.elements.proofs.child_of.Reads as child-of-reads
 use Rattle.elements.proofs.close.Reads as close-reads
 use Rattle.elements.proofs.count.Reads as count-reads
 use Rattle.elements.proofs.field.Reads as field-reads
-use Rattle.elements.proofs.note.Reads as note-reads
+use Rattle.elements.proofs.note_group.Reads as note-group-reads
 use Rattle.elements.proofs.note_bare.Reads as note-bare-reads
 use Rattle.elements.proofs.too_deep.Reads as too-deep-reads
 use Rattle.letters.proofs.byte_at.Reads as byte-at-reads
-use Rattle.paths.proofs.lacking.Reads as lacking-reads
 use Rattle.prose.proofs.text_end.Reads as text-end-reads
-use Rattle.tags.proofs.start.Reads as start-reads
+use Rattle.tags.proofs.name_end.Reads as name-end-reads
+use Rattle.tags.proofs.start_from.Reads as start-from-reads
 use Rattle.elements.proofs.+content+element.{statement}
 use Rattle.elements.proofs.+content+element.Tie.{close}
 
@@ -38,7 +38,7 @@ abbrev μ-content : Measures 2 content-kinds.ps ℕ
 μ-content κs a = 2 * a .1 .1 .0 + 1
 
 abbrev μ-element : Measures 2 element-kinds.ps ℕ
-μ-element κs a = 2 * a .1 .1 .0
+μ-element κs a = 2 * a .1 .1 .1 .0
 
 abbrev content-at : ℕ → In 2 content-kinds.ps
 content-at t = and 2 content-kinds.ps (is 2 content-kinds.ps μ-content t) content.Pre
@@ -64,10 +64,10 @@ pub +content+element-spec : {M : Type 1} → statement M
   text-end-reads.Learnt,
   byte-at-reads.Asked,
   byte-at-reads.Learnt,
-  lacking-reads.Asked,
-  lacking-reads.Learnt,
-  note-reads.Asked,
-  note-reads.Learnt,
+  note-group-reads.Asked,
+  note-group-reads.Learnt,
+  name-end-reads.Asked,
+  name-end-reads.Learnt,
   child-of-reads.Asked,
   child-of-reads.Learnt,
   element-below t,
@@ -89,38 +89,39 @@ pub +content+element-spec : {M : Type 1} → statement M
     (λ c κs. search needs)
     (λ c. search needs)
     (λ c κs. search needs)
-    (λ c κs. search needs)
     (λ c. search needs)
-    (λ c. rw (reading-ends (elementAt (c .before .before .before .before .before .before .before .before .before .before .before .before .before .before .before .args .depth) (c .before .before .before .before .before .before .before .before .before .before .before .before .before .before .before .args .s .now)) (c .before .before .before .before .before .before .before .before .before .before .before .before .before .before .before .args .s .now) (c .before .before .before .before .before .before .before .before .before .before .before .before .before .before .before .args .role) (c .before .before .before .before .before .before .before .before .before .before .before .before .before .before .before .args .at) (c .before .before .before .before .before .before .before .before .before .before .before .before .before .before .before .args .notes .now) (element-onward (c .before .before .before .before .before .before .before .before .before .before .before .before .before .before .before .args .depth) (c .before .before .before .before .before .before .before .before .before .before .before .before .before .before .before .args .s .now)) (c .before .before .before .before .before .before .before .before .before .before .before .before .loop .i) (c .before .before .before .before .before .before .before .before .before .before .before .before .loop .notes) (c .before .before .before .before .before .before .before .before .before .before .before .before .loop .counts) (c .before .before .before .before .before .before .before .before .before .before .before .before .loop .inv .1) (c .before .before .before .before .before .before .before .before .before .j .given .0 .0) (sym (c .before .before .before .before .before .before .before .before .before .before .before .text-end .ensures) ∙ c .before .before .before .before .before .before .before .before .before .j .given .1) (sym (c .before .before .before .before .before .before .before .byte-at .ensures) ∙ c .before .before .before .before .before .before .if1 .taken))
-    (refl, c .before .before .note .ensures ∙ (rw (c .before .before .before .lacking .ensures, counted-lacks (c .before .before .before .before .before .before .before .before .before .before .before .before .before .before .before .args .role) (c .before .before .before .before .before .before .before .before .before .before .before .before .loop .counts) ((c .before .before .before .before .before .before .before .before .before .before .before .before .loop .inv .1) .sofar) ((c .before .before .before .before .before .before .before .before .before .before .before .before .loop .inv .1) .counted), (c .before .before .before .before .before .before .before .before .before .before .before .before .loop .inv .1) .notes-are))))
+    (λ c. rw (reading-ends (elementAt (c .before .before .before .before .before .before .before .before .before .before .before .before .before .before .args .depth) (c .before .before .before .before .before .before .before .before .before .before .before .before .before .before .args .s .now)) (c .before .before .before .before .before .before .before .before .before .before .before .before .before .before .args .s .now) (c .before .before .before .before .before .before .before .before .before .before .before .before .before .before .args .role) (c .before .before .before .before .before .before .before .before .before .before .before .before .before .before .args .at) (c .before .before .before .before .before .before .before .before .before .before .before .before .before .before .args .notes .now) (element-onward (c .before .before .before .before .before .before .before .before .before .before .before .before .before .before .args .depth) (c .before .before .before .before .before .before .before .before .before .before .before .before .before .before .args .s .now)) (c .before .before .before .before .before .before .before .before .before .before .before .loop .i) (c .before .before .before .before .before .before .before .before .before .before .before .loop .notes) (c .before .before .before .before .before .before .before .before .before .before .before .loop .counts) (c .before .before .before .before .before .before .before .before .before .before .before .loop .inv .1) (c .before .before .before .before .before .before .before .before .j .given .0 .0) (sym (c .before .before .before .before .before .before .before .before .before .before .text-end .ensures) ∙ c .before .before .before .before .before .before .before .before .j .given .1) (sym (c .before .before .before .before .before .before .byte-at .ensures) ∙ c .before .before .before .before .before .if1 .taken))
+    (refl, c .before .before .note-group .ensures ∙ (rw (counted-lacks (c .before .before .before .before .before .before .before .before .before .before .before .before .before .before .args .role) (c .before .before .before .before .before .before .before .before .before .before .before .loop .counts) ((c .before .before .before .before .before .before .before .before .before .before .before .loop .inv .1) .sofar) ((c .before .before .before .before .before .before .before .before .before .before .before .loop .inv .1) .counted), (c .before .before .before .before .before .before .before .before .before .before .before .loop .inv .1) .notes-are))))
     (λ c. let on = text-forward (c .before .before .before .before .before .before .before .before .before .args .s .now) (c .before .before .before .before .before .before .loop .i) (c .before .before .before .j .given .0 .0) (sym (c .before .before .before .before .before .text-end .ensures) ∙ c .before .before .before .j .given .1) in search needs)
     (λ c κs. search needs)
-    (λ c κs. (omega (arith, c .before .before .before .before .before .before .before .before .before .before .before .pre .0), tt))
+    (λ c. let on = text-forward (c .before .before .before .before .before .before .before .before .before .before .args .s .now) (c .before .before .before .before .before .before .before .loop .i) (c .before .before .before .before .j .given .0 .0) (sym (c .before .before .before .before .before .before .text-end .ensures) ∙ c .before .before .before .before .j .given .1) in search needs)
+    (λ c κs. search needs)
+    (λ c κs. (omega (arith, c .before .before .before .before .before .before .before .before .before .before .before .before .pre .0), c .before .before .name-end .ensures))
     (λ c. search needs)
     (λ c. search needs)
     (λ c κs. search needs)
-    (λ c. let on = text-forward (c .before .before .before .before .before .before .before .before .before .before .before .before .before .before .before .before .before .before .before .before .args .s .now) (c .before .before .before .before .before .before .before .before .before .before .before .before .before .before .before .before .before .loop .i) (c .before .before .before .before .before .before .before .before .before .before .before .before .before .before .j .given .0 .0) (sym (c .before .before .before .before .before .before .before .before .before .before .before .before .before .before .before .before .text-end .ensures) ∙ c .before .before .before .before .before .before .before .before .before .before .before .before .before .before .j .given .1) in
-    let done = done-read (elementAt (c .before .before .before .before .before .before .before .before .before .before .before .before .before .before .before .before .before .before .before .before .args .depth) (c .before .before .before .before .before .before .before .before .before .before .before .before .before .before .before .before .before .before .before .before .args .s .now) (c .before .before .before .before .before .before .before .before .before .before .child-of .result) (c .before .before .before .before .before .before .before .before .before .before .before .before .before .before .j .given .0 .0)) (c .before .before .before .before .n .given .0 .0) (sym (c .before .before .before .before .before .before .before .before .element .ensures .0) ∙ c .before .before .before .before .n .given .1) in
-    let more = element-onward (c .before .before .before .before .before .before .before .before .before .before .before .before .before .before .before .before .before .before .before .before .args .depth) (c .before .before .before .before .before .before .before .before .before .before .before .before .before .before .before .before .before .before .before .before .args .s .now) (c .before .before .before .before .before .before .before .before .before .before .child-of .result) (c .before .before .before .before .before .before .before .before .before .before .before .before .before .before .j .given .0 .0) (c .before .before .before .before .n .given .0 .0) (done .forest) (done .was) in
+    (λ c. let on = text-forward (c .before .before .before .before .before .before .before .before .before .before .before .before .before .before .before .before .before .before .before .before .before .args .s .now) (c .before .before .before .before .before .before .before .before .before .before .before .before .before .before .before .before .before .before .loop .i) (c .before .before .before .before .before .before .before .before .before .before .before .before .before .before .before .j .given .0 .0) (sym (c .before .before .before .before .before .before .before .before .before .before .before .before .before .before .before .before .before .text-end .ensures) ∙ c .before .before .before .before .before .before .before .before .before .before .before .before .before .before .before .j .given .1) in
+    let done = done-read (elementAt (c .before .before .before .before .before .before .before .before .before .before .before .before .before .before .before .before .before .before .before .before .before .args .depth) (c .before .before .before .before .before .before .before .before .before .before .before .before .before .before .before .before .before .before .before .before .before .args .s .now) (c .before .before .before .before .before .before .before .before .before .before .child-of .result) (c .before .before .before .before .before .before .before .before .before .before .before .before .before .before .before .j .given .0 .0)) (c .before .before .before .before .n .given .0 .0) (sym (c .before .before .before .before .before .before .before .before .element .ensures .0) ∙ c .before .before .before .before .n .given .1) in
+    let more = element-onward (c .before .before .before .before .before .before .before .before .before .before .before .before .before .before .before .before .before .before .before .before .before .args .depth) (c .before .before .before .before .before .before .before .before .before .before .before .before .before .before .before .before .before .before .before .before .before .args .s .now) (c .before .before .before .before .before .before .before .before .before .before .child-of .result) (c .before .before .before .before .before .before .before .before .before .before .before .before .before .before .before .j .given .0 .0) (c .before .before .before .before .n .given .0 .0) (done .forest) (done .was) in
     omega arith)
-    (λ c. let done = done-read (elementAt (c .before .before .before .before .before .before .before .before .before .before .before .before .before .before .before .before .before .before .before .before .args .depth) (c .before .before .before .before .before .before .before .before .before .before .before .before .before .before .before .before .before .before .before .before .args .s .now) (c .before .before .before .before .before .before .before .before .before .before .child-of .result) (c .before .before .before .before .before .before .before .before .before .before .before .before .before .before .j .given .0 .0)) (c .before .before .before .before .n .given .0 .0) (sym (c .before .before .before .before .before .before .before .before .element .ensures .0) ∙ c .before .before .before .before .n .given .1) in
-    let after = read-noted (elementAt (c .before .before .before .before .before .before .before .before .before .before .before .before .before .before .before .before .before .before .before .before .args .depth) (c .before .before .before .before .before .before .before .before .before .before .before .before .before .before .before .before .before .before .before .before .args .s .now) (c .before .before .before .before .before .before .before .before .before .before .child-of .result) (c .before .before .before .before .before .before .before .before .before .before .before .before .before .before .j .given .0 .0)) (c .before .before .before .before .n .given .0 .0) (done .forest) (c .before .before .before .before .before .before .before .before .before .before .before .before .before .before .before .before .before .loop .notes) _ (done .was) (c .before .before .before .before .before .before .before .before .element .ensures .1) in (
-      ap length after ∙ noted-length (done .forest) (c .before .before .before .before .before .before .before .before .before .before .before .before .before .before .before .before .before .loop .notes) ∙ c .before .before .before .before .before .before .before .before .before .before .before .before .before .before .before .before .before .loop .inv .0,
-      rw (c .before .count .ensures) (child-read (elementAt (c .before .before .before .before .before .before .before .before .before .before .before .before .before .before .before .before .before .before .before .before .args .depth) (c .before .before .before .before .before .before .before .before .before .before .before .before .before .before .before .before .before .before .before .before .args .s .now)) (c .before .before .before .before .before .before .before .before .before .before .before .before .before .before .before .before .before .before .before .before .args .s .now) (c .before .before .before .before .before .before .before .before .before .before .before .before .before .before .before .before .before .before .before .before .args .role) (c .before .before .before .before .before .before .before .before .before .before .before .before .before .before .before .before .before .before .before .before .args .at) (c .before .before .before .before .before .before .before .before .before .before .before .before .before .before .before .before .before .before .before .before .args .notes .now) (element-onward (c .before .before .before .before .before .before .before .before .before .before .before .before .before .before .before .before .before .before .before .before .args .depth) (c .before .before .before .before .before .before .before .before .before .before .before .before .before .before .before .before .before .before .before .before .args .s .now)) (c .before .before .before .before .before .before .before .before .before .before .before .before .before .before .before .before .before .loop .i) (c .before .before .before .before .before .before .before .before .before .before .before .before .before .before .before .before .before .loop .notes) (c .before .before .before .before .before .before .before .before .before .before .before .before .before .before .before .before .before .loop .counts) (c .before .before .before .before .before .before .before .before .before .before .before .before .before .before .before .before .before .loop .inv .1) (c .before .before .before .before .before .before .before .before .before .before .before .before .before .before .j .given .0 .0) (c .before .before .before .before .before .before .before .before .before .before .child-of .result) (sym (c .before .before .before .before .before .before .before .before .before .before .before .before .before .before .before .before .text-end .ensures) ∙ c .before .before .before .before .before .before .before .before .before .before .before .before .before .before .j .given .1) (λ h. c .before .before .before .before .before .before .before .before .before .before .before .if1 .left (c .before .before .before .before .before .before .before .before .before .before .before .before .byte-at .ensures ∙ h)) (c .before .before .before .before .before .before .before .before .before .before .child-of .ensures) (c .before .before .before .before .n .given .0 .0) (done .forest) _ (done .was) (element-told (c .before .before .before .before .before .before .before .before .before .before .before .before .before .before .before .before .before .before .before .before .args .depth) (c .before .before .before .before .before .before .before .before .before .before .before .before .before .before .before .before .before .before .before .before .args .s .now) (c .before .before .before .before .before .before .before .before .before .before .child-of .result) (c .before .before .before .before .before .before .before .before .before .before .before .before .before .before .j .given .0 .0) (c .before .before .before .before .n .given .0 .0) (done .forest) (done .was) .shape) after),
+    (λ c. let done = done-read (elementAt (c .before .before .before .before .before .before .before .before .before .before .before .before .before .before .before .before .before .before .before .before .before .args .depth) (c .before .before .before .before .before .before .before .before .before .before .before .before .before .before .before .before .before .before .before .before .before .args .s .now) (c .before .before .before .before .before .before .before .before .before .before .child-of .result) (c .before .before .before .before .before .before .before .before .before .before .before .before .before .before .before .j .given .0 .0)) (c .before .before .before .before .n .given .0 .0) (sym (c .before .before .before .before .before .before .before .before .element .ensures .0) ∙ c .before .before .before .before .n .given .1) in
+    let after = read-noted (elementAt (c .before .before .before .before .before .before .before .before .before .before .before .before .before .before .before .before .before .before .before .before .before .args .depth) (c .before .before .before .before .before .before .before .before .before .before .before .before .before .before .before .before .before .before .before .before .before .args .s .now) (c .before .before .before .before .before .before .before .before .before .before .child-of .result) (c .before .before .before .before .before .before .before .before .before .before .before .before .before .before .before .j .given .0 .0)) (c .before .before .before .before .n .given .0 .0) (done .forest) (c .before .before .before .before .before .before .before .before .before .before .before .before .before .before .before .before .before .before .loop .notes) _ (done .was) (c .before .before .before .before .before .before .before .before .element .ensures .1) in (
+      ap length after ∙ noted-length (done .forest) (c .before .before .before .before .before .before .before .before .before .before .before .before .before .before .before .before .before .before .loop .notes) ∙ c .before .before .before .before .before .before .before .before .before .before .before .before .before .before .before .before .before .before .loop .inv .0,
+      rw (c .before .count .ensures) (child-read (elementAt (c .before .before .before .before .before .before .before .before .before .before .before .before .before .before .before .before .before .before .before .before .before .args .depth) (c .before .before .before .before .before .before .before .before .before .before .before .before .before .before .before .before .before .before .before .before .before .args .s .now)) (c .before .before .before .before .before .before .before .before .before .before .before .before .before .before .before .before .before .before .before .before .before .args .s .now) (c .before .before .before .before .before .before .before .before .before .before .before .before .before .before .before .before .before .before .before .before .before .args .role) (c .before .before .before .before .before .before .before .before .before .before .before .before .before .before .before .before .before .before .before .before .before .args .at) (c .before .before .before .before .before .before .before .before .before .before .before .before .before .before .before .before .before .before .before .before .before .args .notes .now) (element-onward (c .before .before .before .before .before .before .before .before .before .before .before .before .before .before .before .before .before .before .before .before .before .args .depth) (c .before .before .before .before .before .before .before .before .before .before .before .before .before .before .before .before .before .before .before .before .before .args .s .now)) (c .before .before .before .before .before .before .before .before .before .before .before .before .before .before .before .before .before .before .loop .i) (c .before .before .before .before .before .before .before .before .before .before .before .before .before .before .before .before .before .before .loop .notes) (c .before .before .before .before .before .before .before .before .before .before .before .before .before .before .before .before .before .before .loop .counts) (c .before .before .before .before .before .before .before .before .before .before .before .before .before .before .before .before .before .before .loop .inv .1) (c .before .before .before .before .before .before .before .before .before .before .before .before .before .before .before .j .given .0 .0) (c .before .before .before .before .before .before .before .before .before .before .child-of .result) (sym (c .before .before .before .before .before .before .before .before .before .before .before .before .before .before .before .before .before .text-end .ensures) ∙ c .before .before .before .before .before .before .before .before .before .before .before .before .before .before .before .j .given .1) (λ h. c .before .before .before .before .before .before .before .before .before .before .before .before .if1 .left (c .before .before .before .before .before .before .before .before .before .before .before .before .before .byte-at .ensures ∙ h)) (c .before .before .before .before .before .before .before .before .before .before .child-of .ensures) (c .before .before .before .before .n .given .0 .0) (done .forest) _ (done .was) (element-told (c .before .before .before .before .before .before .before .before .before .before .before .before .before .before .before .before .before .before .before .before .before .args .depth) (c .before .before .before .before .before .before .before .before .before .before .before .before .before .before .before .before .before .before .before .before .before .args .s .now) (c .before .before .before .before .before .before .before .before .before .before .child-of .result) (c .before .before .before .before .before .before .before .before .before .before .before .before .before .before .before .j .given .0 .0) (c .before .before .before .before .n .given .0 .0) (done .forest) (done .was) .shape) after),
     ))
     (λ c. search needs)
     (λ c. search needs)
-    (λ c. rw (child-broken (elementAt (c .before .before .before .before .before .before .before .before .before .before .before .before .before .before .before .before .before .args .depth) (c .before .before .before .before .before .before .before .before .before .before .before .before .before .before .before .before .before .args .s .now)) (c .before .before .before .before .before .before .before .before .before .before .before .before .before .before .before .before .before .args .s .now) (c .before .before .before .before .before .before .before .before .before .before .before .before .before .before .before .before .before .args .role) (c .before .before .before .before .before .before .before .before .before .before .before .before .before .before .before .before .before .args .at) (c .before .before .before .before .before .before .before .before .before .before .before .before .before .before .before .before .before .args .notes .now) (element-onward (c .before .before .before .before .before .before .before .before .before .before .before .before .before .before .before .before .before .args .depth) (c .before .before .before .before .before .before .before .before .before .before .before .before .before .before .before .before .before .args .s .now)) (c .before .before .before .before .before .before .before .before .before .before .before .before .before .before .loop .i) (c .before .before .before .before .before .before .before .before .before .before .before .before .before .before .loop .notes) (c .before .before .before .before .before .before .before .before .before .before .before .before .before .before .loop .counts) (c .before .before .before .before .before .before .before .before .before .before .before .before .before .before .loop .inv .1) (c .before .before .before .before .before .before .before .before .before .before .before .j .given .0 .0) (c .before .before .before .before .before .before .before .child-of .result) (sym (c .before .before .before .before .before .before .before .before .before .before .before .before .before .text-end .ensures) ∙ c .before .before .before .before .before .before .before .before .before .before .before .j .given .1) (λ h. c .before .before .before .before .before .before .before .before .if1 .left (c .before .before .before .before .before .before .before .before .before .byte-at .ensures ∙ h)) (c .before .before .before .before .before .before .before .child-of .ensures) (c .before .p2 .given .0 .0) (form-broken (elementAt (c .before .before .before .before .before .before .before .before .before .before .before .before .before .before .before .before .before .args .depth) (c .before .before .before .before .before .before .before .before .before .before .before .before .before .before .before .before .before .args .s .now) (c .before .before .before .before .before .before .before .child-of .result) (c .before .before .before .before .before .before .before .before .before .before .before .j .given .0 .0)) (c .before .p2 .given .0 .0) (sym (c .before .before .before .before .before .element .ensures .0) ∙ c .before .p2 .given .1))) (refl, tt))
+    (λ c. rw (child-broken (elementAt (c .before .before .before .before .before .before .before .before .before .before .before .before .before .before .before .before .before .before .args .depth) (c .before .before .before .before .before .before .before .before .before .before .before .before .before .before .before .before .before .before .args .s .now)) (c .before .before .before .before .before .before .before .before .before .before .before .before .before .before .before .before .before .before .args .s .now) (c .before .before .before .before .before .before .before .before .before .before .before .before .before .before .before .before .before .before .args .role) (c .before .before .before .before .before .before .before .before .before .before .before .before .before .before .before .before .before .before .args .at) (c .before .before .before .before .before .before .before .before .before .before .before .before .before .before .before .before .before .before .args .notes .now) (element-onward (c .before .before .before .before .before .before .before .before .before .before .before .before .before .before .before .before .before .before .args .depth) (c .before .before .before .before .before .before .before .before .before .before .before .before .before .before .before .before .before .before .args .s .now)) (c .before .before .before .before .before .before .before .before .before .before .before .before .before .before .before .loop .i) (c .before .before .before .before .before .before .before .before .before .before .before .before .before .before .before .loop .notes) (c .before .before .before .before .before .before .before .before .before .before .before .before .before .before .before .loop .counts) (c .before .before .before .before .before .before .before .before .before .before .before .before .before .before .before .loop .inv .1) (c .before .before .before .before .before .before .before .before .before .before .before .before .j .given .0 .0) (c .before .before .before .before .before .before .before .child-of .result) (sym (c .before .before .before .before .before .before .before .before .before .before .before .before .before .before .text-end .ensures) ∙ c .before .before .before .before .before .before .before .before .before .before .before .before .j .given .1) (λ h. c .before .before .before .before .before .before .before .before .before .if1 .left (c .before .before .before .before .before .before .before .before .before .before .byte-at .ensures ∙ h)) (c .before .before .before .before .before .before .before .child-of .ensures) (c .before .p2 .given .0 .0) (form-broken (elementAt (c .before .before .before .before .before .before .before .before .before .before .before .before .before .before .before .before .before .before .args .depth) (c .before .before .before .before .before .before .before .before .before .before .before .before .before .before .before .before .before .before .args .s .now) (c .before .before .before .before .before .before .before .child-of .result) (c .before .before .before .before .before .before .before .before .before .before .before .before .j .given .0 .0)) (c .before .p2 .given .0 .0) (sym (c .before .before .before .before .before .element .ensures .0) ∙ c .before .p2 .given .1))) (refl, tt))
     (λ c. search needs)
     (λ c. search needs)
-    (λ c. rw (child-deep (elementAt (c .before .before .before .before .before .before .before .before .before .before .before .before .before .before .before .before .before .args .depth) (c .before .before .before .before .before .before .before .before .before .before .before .before .before .before .before .before .before .args .s .now)) (c .before .before .before .before .before .before .before .before .before .before .before .before .before .before .before .before .before .args .s .now) (c .before .before .before .before .before .before .before .before .before .before .before .before .before .before .before .before .before .args .role) (c .before .before .before .before .before .before .before .before .before .before .before .before .before .before .before .before .before .args .at) (c .before .before .before .before .before .before .before .before .before .before .before .before .before .before .before .before .before .args .notes .now) (element-onward (c .before .before .before .before .before .before .before .before .before .before .before .before .before .before .before .before .before .args .depth) (c .before .before .before .before .before .before .before .before .before .before .before .before .before .before .before .before .before .args .s .now)) (c .before .before .before .before .before .before .before .before .before .before .before .before .before .before .loop .i) (c .before .before .before .before .before .before .before .before .before .before .before .before .before .before .loop .notes) (c .before .before .before .before .before .before .before .before .before .before .before .before .before .before .loop .counts) (c .before .before .before .before .before .before .before .before .before .before .before .before .before .before .loop .inv .1) (c .before .before .before .before .before .before .before .before .before .before .before .j .given .0 .0) (c .before .before .before .before .before .before .before .child-of .result) (sym (c .before .before .before .before .before .before .before .before .before .before .before .before .before .text-end .ensures) ∙ c .before .before .before .before .before .before .before .before .before .before .before .j .given .1) (λ h. c .before .before .before .before .before .before .before .before .if1 .left (c .before .before .before .before .before .before .before .before .before .byte-at .ensures ∙ h)) (c .before .before .before .before .before .before .before .child-of .ensures) (c .before .p3 .given .0 .0) (deep-deep (elementAt (c .before .before .before .before .before .before .before .before .before .before .before .before .before .before .before .before .before .args .depth) (c .before .before .before .before .before .before .before .before .before .before .before .before .before .before .before .before .before .args .s .now) (c .before .before .before .before .before .before .before .child-of .result) (c .before .before .before .before .before .before .before .before .before .before .before .j .given .0 .0)) (c .before .p3 .given .0 .0) (sym (c .before .before .before .before .before .element .ensures .0) ∙ c .before .p3 .given .1))) (refl, tt)))
+    (λ c. rw (child-deep (elementAt (c .before .before .before .before .before .before .before .before .before .before .before .before .before .before .before .before .before .before .args .depth) (c .before .before .before .before .before .before .before .before .before .before .before .before .before .before .before .before .before .before .args .s .now)) (c .before .before .before .before .before .before .before .before .before .before .before .before .before .before .before .before .before .before .args .s .now) (c .before .before .before .before .before .before .before .before .before .before .before .before .before .before .before .before .before .before .args .role) (c .before .before .before .before .before .before .before .before .before .before .before .before .before .before .before .before .before .before .args .at) (c .before .before .before .before .before .before .before .before .before .before .before .before .before .before .before .before .before .before .args .notes .now) (element-onward (c .before .before .before .before .before .before .before .before .before .before .before .before .before .before .before .before .before .before .args .depth) (c .before .before .before .before .before .before .before .before .before .before .before .before .before .before .before .before .before .before .args .s .now)) (c .before .before .before .before .before .before .before .before .before .before .before .before .before .before .before .loop .i) (c .before .before .before .before .before .before .before .before .before .before .before .before .before .before .before .loop .notes) (c .before .before .before .before .before .before .before .before .before .before .before .before .before .before .before .loop .counts) (c .before .before .before .before .before .before .before .before .before .before .before .before .before .before .before .loop .inv .1) (c .before .before .before .before .before .before .before .before .before .before .before .before .j .given .0 .0) (c .before .before .before .before .before .before .before .child-of .result) (sym (c .before .before .before .before .before .before .before .before .before .before .before .before .before .before .text-end .ensures) ∙ c .before .before .before .before .before .before .before .before .before .before .before .before .j .given .1) (λ h. c .before .before .before .before .before .before .before .before .before .if1 .left (c .before .before .before .before .before .before .before .before .before .before .byte-at .ensures ∙ h)) (c .before .before .before .before .before .before .before .child-of .ensures) (c .before .p3 .given .0 .0) (deep-deep (elementAt (c .before .before .before .before .before .before .before .before .before .before .before .before .before .before .before .before .before .before .args .depth) (c .before .before .before .before .before .before .before .before .before .before .before .before .before .before .before .before .before .before .args .s .now) (c .before .before .before .before .before .before .before .child-of .result) (c .before .before .before .before .before .before .before .before .before .before .before .before .j .given .0 .0)) (c .before .p3 .given .0 .0) (sym (c .before .before .before .before .before .element .ensures .0) ∙ c .before .p3 .given .1))) (refl, tt)))
     λ t. element-lts.spec (
       too-deep-reads.Asked,
       too-deep-reads.Learnt,
       field-reads.Asked,
       field-reads.Learnt,
-      start-reads.Asked,
-      start-reads.Learnt,
+      start-from-reads.Asked,
+      start-from-reads.Learnt,
       content-below t,
       content.Post,
       close-reads.Asked,
@@ -149,13 +150,13 @@ pub +content+element-spec : {M : Type 1} → statement M
     (λ c. search needs)
     (λ c. let done = done-read (contentAt (c .before .before .before .before .before .before .before .before .before .before .before .before .before .before .before .before .args .depth - 1) (c .before .before .before .before .before .before .before .before .before .before .before .before .before .before .before .before .args .s .now) (c .before .before .before .before .before .before .before .before .before .before .before .before .before .before .before .before .args .role) (c .before .before .before .before .before .before .before .before .before .inside .given .0 .1 .0)) (c .before .before .e .given .0 .0) (sym (c .before .before .before .before .before .before .content .ensures .0) ∙ c .before .before .e .given .1) in
     rw (element-group (c .before .before .before .before .before .before .before .before .before .before .before .before .before .before .before .before .args .s .now) (c .before .before .before .before .before .before .before .before .before .before .before .before .before .before .before .before .args .role) (c .before .before .before .before .before .before .before .before .before .before .before .before .before .before .before .before .args .at) (c .before .before .before .before .before .before .before .before .before .before .before .before .before .before .before .before .args .depth) (c .before .before .before .before .before .before .before .before .before .before .before .before .before .if1 .left) (c .before .before .before .before .before .before .before .before .before .before .before .before .if2 .left)) (
-      c .close .ensures ∙ group-closed (c .before .before .before .before .before .before .before .before .before .before .before .before .before .before .before .before .args .depth - 1) (c .before .before .before .before .before .before .before .before .before .before .before .before .before .before .before .before .args .s .now) (c .before .before .before .before .before .before .before .before .before .before .before .before .before .before .before .before .args .role) (c .before .before .before .before .before .before .before .before .before .before .before .before .before .before .before .before .args .at) (c .before .before .before .before .before .before .before .before .before .inside .given .0 .0) (c .before .before .before .before .before .before .before .before .before .inside .given .0 .1 .0) (sym (c .before .before .before .before .before .before .before .before .before .before .before .start .ensures) ∙ c .before .before .before .before .before .before .before .before .before .inside .given .1) (c .before .before .e .given .0 .0) (done .forest) (done .was),
-      group-closed-noted (c .before .before .before .before .before .before .before .before .before .before .before .before .before .before .before .before .args .depth - 1) (c .before .before .before .before .before .before .before .before .before .before .before .before .before .before .before .before .args .s .now) (c .before .before .before .before .before .before .before .before .before .before .before .before .before .before .before .before .args .role) (c .before .before .before .before .before .before .before .before .before .before .before .before .before .before .before .before .args .at) (c .before .before .before .before .before .before .before .before .before .inside .given .0 .0) (c .before .before .before .before .before .before .before .before .before .inside .given .0 .1 .0) (sym (c .before .before .before .before .before .before .before .before .before .before .before .start .ensures) ∙ c .before .before .before .before .before .before .before .before .before .inside .given .1) (c .before .before .e .given .0 .0) (done .forest) (c .before .before .before .before .before .before .before .before .before .before .before .before .before .before .before .before .args .notes .now) _ (done .was) (c .before .before .before .before .before .before .content .ensures .1),
+      c .close .ensures ∙ group-closed (c .before .before .before .before .before .before .before .before .before .before .before .before .before .before .before .before .args .depth - 1) (c .before .before .before .before .before .before .before .before .before .before .before .before .before .before .before .before .args .s .now) (c .before .before .before .before .before .before .before .before .before .before .before .before .before .before .before .before .args .role) (c .before .before .before .before .before .before .before .before .before .before .before .before .before .before .before .before .args .at) (c .before .before .before .before .before .before .before .before .before .inside .given .0 .0) (c .before .before .before .before .before .before .before .before .before .inside .given .0 .1 .0) (sym (c .before .before .before .before .before .before .before .before .before .before .before .start-from .ensures) ∙ c .before .before .before .before .before .before .before .before .before .inside .given .1) (c .before .before .e .given .0 .0) (done .forest) (done .was),
+      group-closed-noted (c .before .before .before .before .before .before .before .before .before .before .before .before .before .before .before .before .args .depth - 1) (c .before .before .before .before .before .before .before .before .before .before .before .before .before .before .before .before .args .s .now) (c .before .before .before .before .before .before .before .before .before .before .before .before .before .before .before .before .args .role) (c .before .before .before .before .before .before .before .before .before .before .before .before .before .before .before .before .args .at) (c .before .before .before .before .before .before .before .before .before .inside .given .0 .0) (c .before .before .before .before .before .before .before .before .before .inside .given .0 .1 .0) (sym (c .before .before .before .before .before .before .before .before .before .before .before .start-from .ensures) ∙ c .before .before .before .before .before .before .before .before .before .inside .given .1) (c .before .before .e .given .0 .0) (done .forest) (c .before .before .before .before .before .before .before .before .before .before .before .before .before .before .before .before .args .notes .now) _ (done .was) (c .before .before .before .before .before .before .content .ensures .1),
     ))
     (λ c. search needs)
-    (λ c. rw (element-group (c .before .before .before .before .before .before .before .before .before .before .before .before .before .before .before .args .s .now) (c .before .before .before .before .before .before .before .before .before .before .before .before .before .before .before .args .role) (c .before .before .before .before .before .before .before .before .before .before .before .before .before .before .before .args .at) (c .before .before .before .before .before .before .before .before .before .before .before .before .before .before .before .args .depth) (c .before .before .before .before .before .before .before .before .before .before .before .before .if1 .left) (c .before .before .before .before .before .before .before .before .before .before .before .if2 .left), group-broken (c .before .before .before .before .before .before .before .before .before .before .before .before .before .before .before .args .depth - 1) (c .before .before .before .before .before .before .before .before .before .before .before .before .before .before .before .args .s .now) (c .before .before .before .before .before .before .before .before .before .before .before .before .before .before .before .args .role) (c .before .before .before .before .before .before .before .before .before .before .before .before .before .before .before .args .at) (c .before .before .before .before .before .before .before .before .inside .given .0 .0) (c .before .before .before .before .before .before .before .before .inside .given .0 .1 .0) (sym (c .before .before .before .before .before .before .before .before .before .before .start .ensures) ∙ c .before .before .before .before .before .before .before .before .inside .given .1) (c .before .p .given .0 .0) (form-broken (contentAt (c .before .before .before .before .before .before .before .before .before .before .before .before .before .before .before .args .depth - 1) (c .before .before .before .before .before .before .before .before .before .before .before .before .before .before .before .args .s .now) (c .before .before .before .before .before .before .before .before .before .before .before .before .before .before .before .args .role) (c .before .before .before .before .before .before .before .before .inside .given .0 .1 .0)) (c .before .p .given .0 .0) (sym (c .before .before .before .before .before .content .ensures .0) ∙ c .before .p .given .1))) (refl, tt))
+    (λ c. rw (element-group (c .before .before .before .before .before .before .before .before .before .before .before .before .before .before .before .args .s .now) (c .before .before .before .before .before .before .before .before .before .before .before .before .before .before .before .args .role) (c .before .before .before .before .before .before .before .before .before .before .before .before .before .before .before .args .at) (c .before .before .before .before .before .before .before .before .before .before .before .before .before .before .before .args .depth) (c .before .before .before .before .before .before .before .before .before .before .before .before .if1 .left) (c .before .before .before .before .before .before .before .before .before .before .before .if2 .left), group-broken (c .before .before .before .before .before .before .before .before .before .before .before .before .before .before .before .args .depth - 1) (c .before .before .before .before .before .before .before .before .before .before .before .before .before .before .before .args .s .now) (c .before .before .before .before .before .before .before .before .before .before .before .before .before .before .before .args .role) (c .before .before .before .before .before .before .before .before .before .before .before .before .before .before .before .args .at) (c .before .before .before .before .before .before .before .before .inside .given .0 .0) (c .before .before .before .before .before .before .before .before .inside .given .0 .1 .0) (sym (c .before .before .before .before .before .before .before .before .before .before .start-from .ensures) ∙ c .before .before .before .before .before .before .before .before .inside .given .1) (c .before .p .given .0 .0) (form-broken (contentAt (c .before .before .before .before .before .before .before .before .before .before .before .before .before .before .before .args .depth - 1) (c .before .before .before .before .before .before .before .before .before .before .before .before .before .before .before .args .s .now) (c .before .before .before .before .before .before .before .before .before .before .before .before .before .before .before .args .role) (c .before .before .before .before .before .before .before .before .inside .given .0 .1 .0)) (c .before .p .given .0 .0) (sym (c .before .before .before .before .before .content .ensures .0) ∙ c .before .p .given .1))) (refl, tt))
     (λ c. search needs)
-    (λ c. rw (element-group (c .before .before .before .before .before .before .before .before .before .before .before .before .before .before .before .args .s .now) (c .before .before .before .before .before .before .before .before .before .before .before .before .before .before .before .args .role) (c .before .before .before .before .before .before .before .before .before .before .before .before .before .before .before .args .at) (c .before .before .before .before .before .before .before .before .before .before .before .before .before .before .before .args .depth) (c .before .before .before .before .before .before .before .before .before .before .before .before .if1 .left) (c .before .before .before .before .before .before .before .before .before .before .before .if2 .left), group-deep (c .before .before .before .before .before .before .before .before .before .before .before .before .before .before .before .args .depth - 1) (c .before .before .before .before .before .before .before .before .before .before .before .before .before .before .before .args .s .now) (c .before .before .before .before .before .before .before .before .before .before .before .before .before .before .before .args .role) (c .before .before .before .before .before .before .before .before .before .before .before .before .before .before .before .args .at) (c .before .before .before .before .before .before .before .before .inside .given .0 .0) (c .before .before .before .before .before .before .before .before .inside .given .0 .1 .0) (sym (c .before .before .before .before .before .before .before .before .before .before .start .ensures) ∙ c .before .before .before .before .before .before .before .before .inside .given .1) (c .before .p2 .given .0 .0) (deep-deep (contentAt (c .before .before .before .before .before .before .before .before .before .before .before .before .before .before .before .args .depth - 1) (c .before .before .before .before .before .before .before .before .before .before .before .before .before .before .before .args .s .now) (c .before .before .before .before .before .before .before .before .before .before .before .before .before .before .before .args .role) (c .before .before .before .before .before .before .before .before .inside .given .0 .1 .0)) (c .before .p2 .given .0 .0) (sym (c .before .before .before .before .before .content .ensures .0) ∙ c .before .p2 .given .1))) (refl, tt))
+    (λ c. rw (element-group (c .before .before .before .before .before .before .before .before .before .before .before .before .before .before .before .args .s .now) (c .before .before .before .before .before .before .before .before .before .before .before .before .before .before .before .args .role) (c .before .before .before .before .before .before .before .before .before .before .before .before .before .before .before .args .at) (c .before .before .before .before .before .before .before .before .before .before .before .before .before .before .before .args .depth) (c .before .before .before .before .before .before .before .before .before .before .before .before .if1 .left) (c .before .before .before .before .before .before .before .before .before .before .before .if2 .left), group-deep (c .before .before .before .before .before .before .before .before .before .before .before .before .before .before .before .args .depth - 1) (c .before .before .before .before .before .before .before .before .before .before .before .before .before .before .before .args .s .now) (c .before .before .before .before .before .before .before .before .before .before .before .before .before .before .before .args .role) (c .before .before .before .before .before .before .before .before .before .before .before .before .before .before .before .args .at) (c .before .before .before .before .before .before .before .before .inside .given .0 .0) (c .before .before .before .before .before .before .before .before .inside .given .0 .1 .0) (sym (c .before .before .before .before .before .before .before .before .before .before .start-from .ensures) ∙ c .before .before .before .before .before .before .before .before .inside .given .1) (c .before .p2 .given .0 .0) (deep-deep (contentAt (c .before .before .before .before .before .before .before .before .before .before .before .before .before .before .before .args .depth - 1) (c .before .before .before .before .before .before .before .before .before .before .before .before .before .before .before .args .s .now) (c .before .before .before .before .before .before .before .before .before .before .before .before .before .before .before .args .role) (c .before .before .before .before .before .before .before .before .inside .given .0 .1 .0)) (c .before .p2 .given .0 .0) (sym (c .before .before .before .before .before .content .ensures .0) ∙ c .before .p2 .given .1))) (refl, tt))
     (λ c. search needs)
-    (λ c. rw (element-group (c .before .before .before .before .before .before .before .before .before .before .before .before .args .s .now) (c .before .before .before .before .before .before .before .before .before .before .before .before .args .role) (c .before .before .before .before .before .before .before .before .before .before .before .before .args .at) (c .before .before .before .before .before .before .before .before .before .before .before .before .args .depth) (c .before .before .before .before .before .before .before .before .before .if1 .left) (c .before .before .before .before .before .before .before .before .if2 .left), group-empty (c .before .before .before .before .before .before .before .before .before .before .before .before .args .depth - 1) (c .before .before .before .before .before .before .before .before .before .before .before .before .args .s .now) (c .before .before .before .before .before .before .before .before .before .before .before .before .args .role) (c .before .before .before .before .before .before .before .before .before .before .before .before .args .at) (c .before .before .before .before .before .next .given .0 .0) (c .before .before .before .before .before .next .given .0 .1 .0) (sym (c .before .before .before .before .before .before .before .start .ensures) ∙ c .before .before .before .before .before .next .given .1)) (refl, c .before .before .note-bare .ensures ∙ bare-noted (c .before .before .before .before .before .before .before .before .before .before .before .before .args .role) (c .before .before .before .before .before .before .before .before .before .before .before .before .args .at) (c .before .before .before .before .before .before .before .before .before .before .before .before .args .notes .now)))
-    (λ c. rw (element-group (c .before .before .before .before .before .before .before .before .args .s .now) (c .before .before .before .before .before .before .before .before .args .role) (c .before .before .before .before .before .before .before .before .args .at) (c .before .before .before .before .before .before .before .before .args .depth) (c .before .before .before .before .before .if1 .left) (c .before .before .before .before .if2 .left), group-faulty (c .before .before .before .before .before .before .before .before .args .depth - 1) (c .before .before .before .before .before .before .before .before .args .s .now) (c .before .before .before .before .before .before .before .before .args .role) (c .before .before .before .before .before .before .before .before .args .at) (c .before .p3 .given .0 .0) (sym (c .before .before .before .start .ensures) ∙ c .before .p3 .given .1)) (refl, tt))
+    (λ c. rw (element-group (c .before .before .before .before .before .before .before .before .before .before .before .before .args .s .now) (c .before .before .before .before .before .before .before .before .before .before .before .before .args .role) (c .before .before .before .before .before .before .before .before .before .before .before .before .args .at) (c .before .before .before .before .before .before .before .before .before .before .before .before .args .depth) (c .before .before .before .before .before .before .before .before .before .if1 .left) (c .before .before .before .before .before .before .before .before .if2 .left), group-empty (c .before .before .before .before .before .before .before .before .before .before .before .before .args .depth - 1) (c .before .before .before .before .before .before .before .before .before .before .before .before .args .s .now) (c .before .before .before .before .before .before .before .before .before .before .before .before .args .role) (c .before .before .before .before .before .before .before .before .before .before .before .before .args .at) (c .before .before .before .before .before .next .given .0 .0) (c .before .before .before .before .before .next .given .0 .1 .0) (sym (c .before .before .before .before .before .before .before .start-from .ensures) ∙ c .before .before .before .before .before .next .given .1)) (refl, c .before .before .note-bare .ensures ∙ bare-noted (c .before .before .before .before .before .before .before .before .before .before .before .before .args .role) (c .before .before .before .before .before .before .before .before .before .before .before .before .args .at) (c .before .before .before .before .before .before .before .before .before .before .before .before .args .notes .now)))
+    (λ c. rw (element-group (c .before .before .before .before .before .before .before .before .args .s .now) (c .before .before .before .before .before .before .before .before .args .role) (c .before .before .before .before .before .before .before .before .args .at) (c .before .before .before .before .before .before .before .before .args .depth) (c .before .before .before .before .before .if1 .left) (c .before .before .before .before .if2 .left), group-faulty (c .before .before .before .before .before .before .before .before .args .depth - 1) (c .before .before .before .before .before .before .before .before .args .s .now) (c .before .before .before .before .before .before .before .before .args .role) (c .before .before .before .before .before .before .before .before .args .at) (c .before .p3 .given .0 .0) (sym (c .before .before .before .start-from .ensures) ∙ c .before .p3 .given .1)) (refl, tt))

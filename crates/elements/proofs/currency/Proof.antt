@@ -9,7 +9,7 @@ returns : tie.Need-returns
 returns c = rw (sym (c .before .is-amount .ensures) ∙ not-true _ (c .if1 .taken))
 
 returns-2 : tie.Need-returns-2
-returns-2 c = rw (sym (c .before .before .before .is-amount .ensures) ∙ not-false _ (c .before .before .if1 .left), c .in-euros .ensures, c .before .name-end .ensures)
+returns-2 c = rw (sym (c .before .before .is-amount .ensures) ∙ not-false _ (c .before .if1 .left), c .in-euros .ensures)
 
 pub currency-spec : {M : Type 1} → statement M
-currency-spec = tie.close (tie.spec (λ c κs. search needs) returns (λ c. search needs) (λ c κs. search needs) (λ c κs. search needs) returns-2)
+currency-spec = tie.close (tie.spec (λ c κs. search needs) returns (λ c κs. search needs) returns-2)

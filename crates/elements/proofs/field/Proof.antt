@@ -3,49 +3,40 @@ use mathlib.Core.Path.{_≡_, sym, _∙_}
 use native.Mathlib.Omega.{arith}
 use borrow.Author.Needs.{needs}
 use borrow.Author.Tests.{not-true, not-false}
-use Rattle.tags.proofs.Tags.{open-forward, empty-forward}
-use Rattle.elements.proofs.Fields.{field-noted, filled-noted, field-open, field-foreign, field-empty, field-unfit, field-empty-foreign, field-faulty}
+use Prim.Native.Nat.{ℕ, _+_}
+use Rattle.tags.specs.Names.{nameEnd}
+use Rattle.elements.proofs.Fields.{known-from, field-noted, filled-noted, field-open, field-foreign, field-empty, field-unfit, field-empty-foreign, field-faulty}
 use Rattle.elements.proofs.field.Statement.{statement}
 use Rattle.elements.proofs.field.Tie as tie
 
-currency-requires : tie.Need-currency-requires
-currency-requires c κs =
-    let on = open-forward (c .before .before .before .before .before .before .args .s .now) (c .before .before .before .before .before .before .args .at) (c .before .end .given .0 .0) (c .before .end .given .0 .1 .0) (sym (c .before .before .before .start .ensures) ∙ c .before .end .given .1) in
-    omega arith
-
 returns : tie.Need-returns
 returns c =
-    rw (field-foreign (c .before .before .before .before .before .before .before .before .args .role) (c .before .before .before .before .before .before .before .before .args .s .now) (c .before .before .before .before .before .before .before .before .args .at) (c .before .before .before .end .given .0 .0) (c .before .before .before .end .given .0 .1 .0) (sym (c .before .before .before .before .before .start .ensures) ∙ c .before .before .before .end .given .1) (sym (c .before .currency .ensures) ∙ not-true _ (c .if1 .taken)))
+    rw (field-foreign (c .before .before .before .before .before .before .before .before .args .role) (c .before .before .before .before .before .before .before .before .args .s .now) (c .before .before .before .before .before .before .before .before .args .at) (c .before .before .before .end .given .0 .0) (c .before .before .before .end .given .0 .1 .0) (sym (c .before .before .before .before .before .start-from .ensures) ∙ c .before .before .before .end .given .1) (known-from (c .before .before .before .before .before .before .before .before .args .role) (c .before .before .before .before .before .before .before .before .args .s .now) (c .before .before .before .before .before .before .before .before .args .to) (nameEnd (c .before .before .before .before .before .before .before .before .args .s .now) (c .before .before .before .before .before .before .before .before .args .at + 1)) (c .before .before .before .end .given .0 .0) _ (c .before .before .before .before .before .before .before .before .pre .0) (sym (c .before .currency .ensures) ∙ not-true _ (c .if1 .taken))))
     (search needs, tt)
-
-currency-requires-2 : tie.Need-currency-requires-2
-currency-requires-2 c κs =
-    let on = empty-forward (c .before .before .before .before .before .before .args .s .now) (c .before .before .before .before .before .before .args .at) (c .before .end2 .given .0 .0) (c .before .end2 .given .0 .1 .0) (sym (c .before .before .before .start .ensures) ∙ c .before .end2 .given .1) in
-    omega arith
 
 returns-2 : tie.Need-returns-2
 returns-2 c =
-    rw (field-empty-foreign (c .before .before .before .before .before .before .before .before .args .role) (c .before .before .before .before .before .before .before .before .args .s .now) (c .before .before .before .before .before .before .before .before .args .at) (c .before .before .before .end2 .given .0 .0) (c .before .before .before .end2 .given .0 .1 .0) (sym (c .before .before .before .before .before .start .ensures) ∙ c .before .before .before .end2 .given .1) (sym (c .before .currency2 .ensures) ∙ not-true _ (c .if2 .taken)))
+    rw (field-empty-foreign (c .before .before .before .before .before .before .before .before .args .role) (c .before .before .before .before .before .before .before .before .args .s .now) (c .before .before .before .before .before .before .before .before .args .at) (c .before .before .before .end2 .given .0 .0) (c .before .before .before .end2 .given .0 .1 .0) (sym (c .before .before .before .before .before .start-from .ensures) ∙ c .before .before .before .end2 .given .1) (known-from (c .before .before .before .before .before .before .before .before .args .role) (c .before .before .before .before .before .before .before .before .args .s .now) (c .before .before .before .before .before .before .before .before .args .to) (nameEnd (c .before .before .before .before .before .before .before .before .args .s .now) (c .before .before .before .before .before .before .before .before .args .at + 1)) (c .before .before .before .end2 .given .0 .0) _ (c .before .before .before .before .before .before .before .before .pre .0) (sym (c .before .currency2 .ensures) ∙ not-true _ (c .if2 .taken))))
     (search needs, tt)
 
 returns-3 : tie.Need-returns-3
 returns-3 c =
-    rw (field-unfit (c .before .before .before .before .before .before .before .before .before .before .args .role) (c .before .before .before .before .before .before .before .before .before .before .args .s .now) (c .before .before .before .before .before .before .before .before .before .before .args .at) (c .before .before .before .before .before .end2 .given .0 .0) (c .before .before .before .before .before .end2 .given .0 .1 .0) (sym (c .before .before .before .before .before .before .before .start .ensures) ∙ c .before .before .before .before .before .end2 .given .1) (sym (c .before .before .before .currency2 .ensures) ∙ not-false _ (c .before .before .if2 .left)) (sym (c .before .fits-empty .ensures) ∙ not-true _ (c .if3 .taken)))
+    rw (field-unfit (c .before .before .before .before .before .before .before .before .before .before .args .role) (c .before .before .before .before .before .before .before .before .before .before .args .s .now) (c .before .before .before .before .before .before .before .before .before .before .args .at) (c .before .before .before .before .before .end2 .given .0 .0) (c .before .before .before .before .before .end2 .given .0 .1 .0) (sym (c .before .before .before .before .before .before .before .start-from .ensures) ∙ c .before .before .before .before .before .end2 .given .1) (known-from (c .before .before .before .before .before .before .before .before .before .before .args .role) (c .before .before .before .before .before .before .before .before .before .before .args .s .now) (c .before .before .before .before .before .before .before .before .before .before .args .to) (nameEnd (c .before .before .before .before .before .before .before .before .before .before .args .s .now) (c .before .before .before .before .before .before .before .before .before .before .args .at + 1)) (c .before .before .before .before .before .end2 .given .0 .0) _ (c .before .before .before .before .before .before .before .before .before .before .pre .0) (sym (c .before .before .before .currency2 .ensures) ∙ not-false _ (c .before .before .if2 .left))) (sym (c .before .fits-empty .ensures) ∙ not-true _ (c .if3 .taken)))
     (search needs, tt)
 
 returns-4 : tie.Need-returns-4
 returns-4 c =
-    rw (field-open (c .before .before .before .before .before .before .before .before .before .before .before .before .before .args .role) (c .before .before .before .before .before .before .before .before .before .before .before .before .before .args .s .now) (c .before .before .before .before .before .before .before .before .before .before .before .before .before .args .at) (c .before .before .before .before .before .before .before .before .end .given .0 .0) (c .before .before .before .before .before .before .before .before .end .given .0 .1 .0) (sym (c .before .before .before .before .before .before .before .before .before .before .start .ensures) ∙ c .before .before .before .before .before .before .before .before .end .given .1) (sym (c .before .before .before .before .before .before .currency .ensures) ∙ not-false _ (c .before .before .before .before .before .if1 .left)))
-    (c .filled-field .ensures, rw (c .before .before .before .note .ensures) (filled-noted (c .before .before .before .before .before .before .before .before .before .before .before .before .before .args .role) (c .before .before .before .before .before .before .before .before .before .before .before .before .before .args .s .now) (c .before .before .before .before .before .before .before .before .before .before .before .before .before .args .at) (c .before .before .before .before .before .before .before .before .end .given .0 .1 .0) (c .before .before .before .before .before .before .before .before .before .before .before .before .before .pre) (c .before .before .before .before .before .before .before .before .before .before .before .before .before .args .notes .now)))
+    rw (field-open (c .before .before .before .before .before .before .before .before .before .before .before .before .before .args .role) (c .before .before .before .before .before .before .before .before .before .before .before .before .before .args .s .now) (c .before .before .before .before .before .before .before .before .before .before .before .before .before .args .at) (c .before .before .before .before .before .before .before .before .end .given .0 .0) (c .before .before .before .before .before .before .before .before .end .given .0 .1 .0) (sym (c .before .before .before .before .before .before .before .before .before .before .start-from .ensures) ∙ c .before .before .before .before .before .before .before .before .end .given .1) (known-from (c .before .before .before .before .before .before .before .before .before .before .before .before .before .args .role) (c .before .before .before .before .before .before .before .before .before .before .before .before .before .args .s .now) (c .before .before .before .before .before .before .before .before .before .before .before .before .before .args .to) (nameEnd (c .before .before .before .before .before .before .before .before .before .before .before .before .before .args .s .now) (c .before .before .before .before .before .before .before .before .before .before .before .before .before .args .at + 1)) (c .before .before .before .before .before .before .before .before .end .given .0 .0) _ (c .before .before .before .before .before .before .before .before .before .before .before .before .before .pre .0) (sym (c .before .before .before .before .before .before .currency .ensures) ∙ not-false _ (c .before .before .before .before .before .if1 .left))))
+    (c .filled-field .ensures, rw (c .before .before .before .note .ensures) (filled-noted (c .before .before .before .before .before .before .before .before .before .before .before .before .before .args .role) (c .before .before .before .before .before .before .before .before .before .before .before .before .before .args .s .now) (c .before .before .before .before .before .before .before .before .before .before .before .before .before .args .at) (c .before .before .before .before .before .before .before .before .end .given .0 .1 .0) (c .before .before .before .before .before .before .before .before .before .before .before .before .before .pre .1) (c .before .before .before .before .before .before .before .before .before .before .before .before .before .args .notes .now)))
 
 returns-5 : tie.Need-returns-5
 returns-5 c =
-    rw (field-empty (c .before .before .before .before .before .before .before .before .before .before .before .before .before .before .args .role) (c .before .before .before .before .before .before .before .before .before .before .before .before .before .before .args .s .now) (c .before .before .before .before .before .before .before .before .before .before .before .before .before .before .args .at) (c .before .before .before .before .before .before .before .before .before .end2 .given .0 .0) (c .before .before .before .before .before .before .before .before .before .end2 .given .0 .1 .0) (sym (c .before .before .before .before .before .before .before .before .before .before .before .start .ensures) ∙ c .before .before .before .before .before .before .before .before .before .end2 .given .1) (sym (c .before .before .before .before .before .before .before .currency2 .ensures) ∙ not-false _ (c .before .before .before .before .before .before .if2 .left)) (sym (c .before .before .before .before .before .fits-empty .ensures) ∙ not-false _ (c .before .before .before .before .if3 .left)))
-    (search needs, c .before .before .note2 .ensures ∙ field-noted (c .before .before .before .before .before .before .before .before .before .before .before .before .before .before .args .role) (c .before .before .before .before .before .before .before .before .before .before .before .before .before .before .args .s .now) (c .before .before .before .before .before .before .before .before .before .before .before .before .before .before .args .at) (c .before .before .before .before .before .before .before .before .before .before .before .before .before .before .args .at) (c .before .before .before .before .before .before .before .before .before .before .before .before .before .before .pre) (c .before .before .before .before .before .before .before .before .before .before .before .before .before .before .args .notes .now) (c .before .before .before .before .before .before .before .before .before .before .before .before .before .before .args .at))
+    rw (field-empty (c .before .before .before .before .before .before .before .before .before .before .before .before .before .before .args .role) (c .before .before .before .before .before .before .before .before .before .before .before .before .before .before .args .s .now) (c .before .before .before .before .before .before .before .before .before .before .before .before .before .before .args .at) (c .before .before .before .before .before .before .before .before .before .end2 .given .0 .0) (c .before .before .before .before .before .before .before .before .before .end2 .given .0 .1 .0) (sym (c .before .before .before .before .before .before .before .before .before .before .before .start-from .ensures) ∙ c .before .before .before .before .before .before .before .before .before .end2 .given .1) (known-from (c .before .before .before .before .before .before .before .before .before .before .before .before .before .before .args .role) (c .before .before .before .before .before .before .before .before .before .before .before .before .before .before .args .s .now) (c .before .before .before .before .before .before .before .before .before .before .before .before .before .before .args .to) (nameEnd (c .before .before .before .before .before .before .before .before .before .before .before .before .before .before .args .s .now) (c .before .before .before .before .before .before .before .before .before .before .before .before .before .before .args .at + 1)) (c .before .before .before .before .before .before .before .before .before .end2 .given .0 .0) _ (c .before .before .before .before .before .before .before .before .before .before .before .before .before .before .pre .0) (sym (c .before .before .before .before .before .before .before .currency2 .ensures) ∙ not-false _ (c .before .before .before .before .before .before .if2 .left))) (sym (c .before .before .before .before .before .fits-empty .ensures) ∙ not-false _ (c .before .before .before .before .if3 .left)))
+    (search needs, c .before .before .note2 .ensures ∙ field-noted (c .before .before .before .before .before .before .before .before .before .before .before .before .before .before .args .role) (c .before .before .before .before .before .before .before .before .before .before .before .before .before .before .args .s .now) (c .before .before .before .before .before .before .before .before .before .before .before .before .before .before .args .at) (c .before .before .before .before .before .before .before .before .before .before .before .before .before .before .args .at) (c .before .before .before .before .before .before .before .before .before .before .before .before .before .before .pre .1) (c .before .before .before .before .before .before .before .before .before .before .before .before .before .before .args .notes .now) (c .before .before .before .before .before .before .before .before .before .before .before .before .before .before .args .at))
 
 returns-6 : tie.Need-returns-6
 returns-6 c =
-    rw (field-faulty (c .before .before .before .before .before .before .args .role) (c .before .before .before .before .before .before .args .s .now) (c .before .before .before .before .before .before .args .at) (c .before .p .given .0 .0) (sym (c .before .before .before .start .ensures) ∙ c .before .p .given .1))
+    rw (field-faulty (c .before .before .before .before .before .before .args .role) (c .before .before .before .before .before .before .args .s .now) (c .before .before .before .before .before .before .args .at) (c .before .p .given .0 .0) (sym (c .before .before .before .start-from .ensures) ∙ c .before .p .given .1))
     (search needs, tt)
 
 pub field-spec : {M : Type 1} → statement M
@@ -54,12 +45,12 @@ field-spec =
     (tie.spec
     (λ c κs. search needs)
     (λ c. search needs)
-    currency-requires
+    (λ c κs. search needs)
     returns
     (λ c κs. search needs)
     (λ c κs. search needs)
     (λ c. search needs)
-    currency-requires-2
+    (λ c κs. search needs)
     returns-2
     (λ c κs. search needs)
     returns-3
