@@ -7,34 +7,10 @@
 #include <string.h>
 
 #include "../include/tynderaxo.h"
+#include "fields.h"
 
 enum { ROWS = 3, ROOM = 8, BULKS = 1, MESSAGES = 3 };
 static const uint32_t TODAY = 20260615;
-
-/* Both write a field and return the place after it: text padded with spaces, numbers big-endian. */
-static uint8_t *text(uint8_t *at, const char *value, size_t width) {
-    memset(at, ' ', width);
-    memcpy(at, value, strlen(value));
-    return at + width;
-}
-
-static uint8_t *number(uint8_t *at, uint64_t value, int width) {
-    for (int i = width - 1; i >= 0; i--, value >>= 8) at[i] = (uint8_t)value;
-    return at + width;
-}
-
-static uint64_t number_at(const uint8_t *at, int width) {
-    uint64_t value = 0;
-    for (int i = 0; i < width; i++) value = value << 8 | at[i];
-    return value;
-}
-
-static uint8_t *row(uint8_t *at, const char *bic, int kind) {
-    at = text(at, bic, 11);
-    at = number(at, 20260101, 4);
-    at = number(at, 20991231, 4);
-    return number(at, (uint64_t)kind, 1);
-}
 
 static uint8_t *header(uint8_t *at, const char *identifier, const char *sender, uint64_t messages, uint64_t cents) {
     at = number(at, 1, 1);
