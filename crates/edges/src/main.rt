@@ -1,10 +1,12 @@
-// Runs the values at the edges of the rules through the proved judge and prints a line for each. The cases are the lines of `stdin`,
+// Runs the values at the edges of the rules through the proved judge and the proved reader, and prints a line for each. The cases are the lines of `stdin`,
 // which say what they do at their start; `stdout` was worked out by hand from the rules. Proved is that the program is safe and ends;
 // what it prints is compared.
+mod documents;
 mod files;
 mod say;
 mod words;
 
+use crate::documents::Ends;
 use judging::Answer;
 use rules::Terms;
 
@@ -89,7 +91,8 @@ fn step(line: &[u8], model: &mut [u8], sheet: &[u8], register: &mut [u8]) {
     }
 }
 
-fn run(script: &[u8], model: &mut [u8], sheet: &mut [u8], register: &mut [u8]) {
+// The lines of the judge.
+fn judge_all(script: &[u8], model: &mut [u8], sheet: &mut [u8], register: &mut [u8]) {
     let mut at = 0;
     while at < script.len() {
         let line = words::line(script, at);
@@ -99,16 +102,34 @@ fn run(script: &[u8], model: &mut [u8], sheet: &mut [u8], register: &mut [u8]) {
     }
 }
 
+// A line that has the text read.
+fn read(line: &[u8], text: &[u8]) {
+    if wire::u8_at(line, 0) == b'r' {
+        say::title(words::rest(line, 2));
+        documents::read(text, words::count(line, 1) as usize);
+    }
+}
+
+// The lines of the reader.
+fn read_all(script: &[u8], text: &mut [u8]) {
+    let mut ends = Ends { text: 0, mark: 0 };
+    let mut at = 0;
+    while at < script.len() {
+        let line = words::line(script, at);
+        ends = documents::change(line, text, ends);
+        read(line, wire::text_at(text, 0, ends.text));
+        at += line.len() + 1;
+    }
+}
+
 fn main() {
     let mut script = [0u8; MOST_SCRIPT];
     let mut model = files::model();
     let mut sheet = files::large();
     let mut register = files::large();
+    let mut text = documents::empty();
     let n = io::read_full(libc::STDIN_FILENO, &mut script);
-    run(
-        wire::text_at(&script, 0, n),
-        &mut model,
-        &mut sheet,
-        &mut register,
-    );
+    let lines = wire::text_at(&script, 0, n);
+    judge_all(lines, &mut model, &mut sheet, &mut register);
+    read_all(lines, &mut text);
 }

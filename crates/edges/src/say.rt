@@ -5,6 +5,11 @@ use crate::words;
 // A longer report is told by its length.
 const MOST_SHOWN: usize = 1000;
 
+// In a sheet, where the amount of the first message would stand if there were no headers, and what each header takes.
+const AMOUNT: usize = 54;
+
+const HEADER: usize = 65;
+
 pub(crate) fn text(words: &[u8]) {
     io::write_all(libc::STDOUT_FILENO, words);
 }
@@ -117,4 +122,26 @@ pub(crate) fn row(place: usize, reachable: bool) {
     } else {
         text(b", not reachable\n");
     }
+}
+
+// The sheet that was read, by its length and the amount of its first message.
+pub(crate) fn sheet(length: usize, sheet: &[u8]) {
+    text(b"sheet of ");
+    number(length as u64);
+    text(b" bytes, amount ");
+    let bulks = wire::u32_at(sheet, 0) as usize;
+    number(wire::u64_at(sheet, AMOUNT + HEADER * bulks));
+}
+
+// Why a text is no sheet, and where that was met.
+pub(crate) fn stop(number_of_it: u32, place: usize) {
+    text(b"refusal ");
+    number(number_of_it as u64);
+    text(b" at ");
+    number(place as u64);
+}
+
+pub(crate) fn kept(bytes: u64) {
+    text(b"; bytes kept ");
+    last(bytes);
 }
