@@ -1,6 +1,6 @@
-// Runs the values at the edges of the rules through the proved judge and the proved reader, and prints a line for each. The cases are the lines of `stdin`,
-// which say what they do at their start; `stdout` was worked out by hand from the rules. Proved is that the program is safe and ends;
-// what it prints is compared.
+// Runs the values at the edges of the rules through the proved judge and the proved reader, and prints a line for each. The cases are
+// the lines of `stdin`, which say what they do at their start; `stdout` was worked out by hand from the rules. Proved is that the
+// program is safe and ends; what it prints is compared.
 mod documents;
 mod files;
 mod say;
