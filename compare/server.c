@@ -16,8 +16,6 @@
 #include <string.h>
 
 #include "../include/tynderaxo.h"
-#ifdef WITH_READER
-#endif
 
 enum { JUDGE = 1, LOOKUP = 2, READ = 3, BUFFERS = 5, READ_ONLY = 2, WORDS = 5, GUARD = 61, GUARD_BYTE = 0xA5 };
 
