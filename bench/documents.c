@@ -11,8 +11,8 @@
 
 static const char *const STREETS[] = {"Brīvības gatve", "Krišjāņa Valdemāra iela", "Lielā iela", "Rīgas iela", "Main Street"};
 static const char *const TOWNS[] = {"Rīga", "Liepāja", "Daugavpils", "Valmiera", "Jūrmala"};
-static const char *const PERSONS[] = {"Jānis Bērziņš", "Anna Kalniņa", "Peter Smith", "Maija Ozola", "Märt Tamm"};
-static const char *const FIRMS[] = {"SIA &quot;Zaļais Ceļš&quot;", "Smith &amp; Sons Ltd", "AS Latvijas Piens",
+static const char *const CLUBS[] = {"Biedrība Rīts", "Kalniņu skola", "Garden Club", "Kooperatīvs Ozols", "Ühistu Tamm"};
+static const char *const FIRMS[] = {"SIA &quot;Zaļais Ceļš&quot;", "Masons &amp; Sons Ltd", "AS Latvijas Piens",
                                     "OÜ Puit &amp; Paber", "UAB Gintaras"};
 
 enum { FIVE = 5 };
@@ -53,7 +53,7 @@ static void address(size_t i) {
 
 static void party(const char *name, size_t i, int firm) {
     printf("<%s>", name);
-    element("Nm", firm ? FIRMS[i % FIVE] : PERSONS[i % FIVE]);
+    element("Nm", firm ? FIRMS[i % FIVE] : CLUBS[i % FIVE]);
     address(i);
     if (firm) organisation(i);
     else person(i);
