@@ -1,144 +1,131 @@
--- The table of the code is that of the definitions: a test that is computed over all rows, and the laws of a search through them. Assumes nothing.
+-- The laws of the table: what a child of a name plays, what no row has as its parent, and what an element lacks. Assumes nothing.
 use mathlib.Core.Path.{_≡_, refl, sym, ap, _∙_}
-use mathlib.Core.Bool.{Bool, true, false, cond, not, _&&_, _||_, false≢true}
-use mathlib.Core.List.{List, [], _∷_, map}
-use Prim.Native.Nat.{ℕ, zero, suc, _+_, _*_, _≤_, _<_}
-use native.Mathlib.Numerals.{add-one}
+use mathlib.Core.Bool.{Bool, true, false, not, _&&_, false≢true, and-eq-true-iff, and-assoc, and-true, and-self}
+use mathlib.Core.List.{List, [], _∷_}
+use Prim.Native.Nat.{ℕ, zero, suc, _+_, _≤_, _<_}
 use native.Mathlib.Omega.{arith}
-use lib.Dec.{eqb, ltb}
-use lib.ListN.{length, drop, getD, drop-of-length-le}
-use lib.Seq.{drop-cons}
-use borrow.Author.Tests.{eq-eqb, ne-eqb, ltb-true}
-use Rattle.wire.specs.Field.{text, part, same}
-use Rattle.wire.specs.Places.{everyFrom}
-use Rattle.wire.proofs.Scans.{every-holds}
+use lib.Dec.{eqb, leb, ltb}
+use borrow.Author.Tests.{ne-eqb, ltb-true, leb-true}
+use Rattle.wire.specs.Field.{same}
 use Rattle.wire.proofs.Texts.{same-equal}
 use Rattle.paths.specs.Roles as roles
-use Rattle.paths.specs.Table.{Row, row, rows, rowCount, rowAt, parentBytes, playedBytes, lengthBytes, nameBytes, about, among, childRole, free, met, allMet, lacks}
+use Rattle.paths.specs.Table.{Row, rows, among, childRole, met, allMet, lacks}
 
-nameIn : ℕ → List ℕ
-nameIn k = part nameBytes (21 * k) (length (rowAt k .name))
+-- ---- a child of a name that is asked for
 
-right : ℕ → Bool
-right k = same (nameIn k) (rowAt k .name)
+pub named : {role : ℕ} (parent : ℕ) (name asked : List ℕ) {t : Bool} → t ≡ same name asked → t ≡ true → role ≡ childRole parent asked → role ≡ childRole parent name
+named parent name asked told found plays = rw (same-equal name asked (sym told ∙ found)) plays
 
-all-right : everyFrom right 43 0 ≡ true
-unfolding everyFrom right nameIn same
-all-right = refl
-
-pub name-right : (k : ℕ) → k < 43 → part nameBytes (21 * k) (length (rowAt k .name)) ≡ rowAt k .name
-unfolding nameIn right
-name-right k h = same-equal (nameIn k) (rowAt k .name) (every-holds right 43 0 k all-right (omega arith) (omega arith))
-
--- ---- the code's other texts
-
-module _ (f : Row → ℕ) where
-  of-row : (rs : List Row) (k : ℕ) → k < length rs → getD (map f rs) k 0 ≡ f (getD rs k (row roles.other "" roles.other))
-  of-row [] k h = absurd (omega arith)
-  of-row (r ∷ rs) zero h = refl
-  of-row (r ∷ rs) (suc k) h = of-row rs k (omega arith)
-
-pub length-right : (k : ℕ) → k < 43 → getD lengthBytes k 0 ≡ length (rowAt k .name)
-length-right k h = of-row (λ r. length (r .name)) rows k h
-
-pub parent-right : (k : ℕ) → k < 43 → getD parentBytes k 0 ≡ rowAt k .parent
-parent-right k h = of-row (λ r. r .parent) rows k h
-
-pub played-right : (k : ℕ) → k < 43 → getD playedBytes k 0 ≡ rowAt k .role
-played-right k h = of-row (λ r. r .role) rows k h
-
--- ---- a search from row k on
+-- in a parent that a match has found
+pub there : {role : ℕ} {parent key : ℕ} (name : List ℕ) → parent ≡ key → role ≡ childRole key name → role ≡ childRole parent name
+there name e told = rw e told
 
 pub no-others : (name : List ℕ) → childRole roles.other name ≡ roles.other
 unfolding childRole among
 no-others name = refl
 
-module _ (parent : ℕ) (name : List ℕ) (k : ℕ) where
-  among-step : k < 43 → among (drop k rows) parent name ≡ cond (about (rowAt k) parent name) (rowAt k .role) (among (drop (k + 1) rows) parent name)
-  unfolding among
-  among-step h = rw (add-one k, drop-cons rows k (row roles.other "" roles.other) h)
+-- ---- what no row has as its parent
 
-  pub among-here : k < 43 → about (rowAt k) parent name ≡ true → among (drop k rows) parent name ≡ rowAt k .role
-  among-here h e = among-step h ∙ (rw e)
+unfoldable parentsWithin : List Row → Bool
+parentsWithin [] = true
+parentsWithin (r ∷ rs) = leb roles.document (r .parent) && leb (r .parent) roles.originalReference && parentsWithin rs
 
-  pub among-more : k < 43 → about (rowAt k) parent name ≡ false → among (drop (k + 1) rows) parent name ≡ among (drop k rows) parent name
-  among-more h e = sym (among-step h ∙ (rw e))
+all-within : parentsWithin rows ≡ true
+unfolding parentsWithin
+all-within = refl
 
-  pub among-ends : 43 ≤ k → among (drop k rows) parent name ≡ roles.other
-  unfolding among
-  among-ends h = rw (drop-of-length-le rows h)
+module _ (parent : ℕ) (none : roles.document ≤ parent → roles.originalReference < parent) where
+  apart : (r : Row) → leb roles.document (r .parent) ≡ true → leb (r .parent) roles.originalReference ≡ true → eqb (r .parent) parent ≡ false
+  apart r low high =
+      let l = leb-true roles.document (r .parent) low in
+      let h = leb-true (r .parent) roles.originalReference high in
+      ne-eqb (r .parent) parent (λ (e : r .parent ≡ parent). absurd (omega (arith, none (omega arith))))
 
--- ---- a test from row k on
+  among-none : (name : List ℕ) (rs : List Row) → parentsWithin rs ≡ true → among rs parent name ≡ roles.other
+  unfolding among parentsWithin
+  among-none name [] e = refl
+  among-none name (r ∷ rs) e =
+      let both = and-eq-true-iff _ _ .0 e in
+      let ends = and-eq-true-iff _ _ .0 (both .0) in
+      rw (apart r (ends .0) (ends .1), among-none name rs (both .1))
 
-module _ (count : ℕ → ℕ) (role k : ℕ) where
-  met-step : k < 43 → allMet count (drop k rows) role ≡ (met count (rowAt k) role && allMet count (drop (k + 1) rows) role)
-  unfolding allMet
-  met-step h = rw (add-one k, drop-cons rows k (row roles.other "" roles.other) h)
+  pub child-none : (name : List ℕ) → childRole parent name ≡ roles.other
+  unfolding childRole
+  child-none name = among-none name rows all-within
 
-  pub met-fails : k < 43 → met count (rowAt k) role ≡ false → allMet count (drop k rows) role ≡ false
-  met-fails h e = met-step h ∙ (rw e)
+  met-none : (count : ℕ → ℕ) (rs : List Row) → parentsWithin rs ≡ true → allMet count rs parent ≡ true
+  unfolding allMet parentsWithin
+  met-none count [] e = refl
+  met-none count (r ∷ rs) e =
+      let both = and-eq-true-iff _ _ .0 e in
+      let ends = and-eq-true-iff _ _ .0 (both .0) in
+      rw (apart r (ends .0) (ends .1), met-none count rs (both .1))
 
-  pub met-more : k < 43 → met count (rowAt k) role ≡ true → allMet count (drop (k + 1) rows) role ≡ allMet count (drop k rows) role
-  met-more h e = sym (met-step h ∙ (rw e))
+  pub lacks-none : (count : ℕ → ℕ) → (parent ≡ roles.stranger → ⊥) → lacks parent count ≡ false
+  unfolding lacks
+  lacks-none count e = rw (ne-eqb _ _ e, met-none count rows all-within)
 
-  pub met-ends : 43 ≤ k → allMet count (drop k rows) role ≡ true
-  unfolding allMet
-  met-ends h = rw (drop-of-length-le rows h)
+-- what the last arm of a match tells whose other arms are n numbers from `low` on
+abbrev pub Unlike : ℕ → ℕ → ℕ → Type 0
+Unlike x low zero = Unit {0}
+Unlike x low (suc n) = Unlike x low n × (x ≡ low + n → ⊥)
 
-module _ (role : ℕ) (count : ℕ → ℕ) where
-  pub lacks-other : role ≡ roles.other → lacks role count ≡ false
+pub beyond : (x low n : ℕ) → Unlike x low n → low ≤ x → low + n ≤ x
+beyond x low zero u h = omega arith
+beyond x low (suc n) u h = omega (arith, u .1, beyond x low n (u .0) h)
+
+-- ---- what an element lacks
+
+pub lacks-other : (role : ℕ) (count : ℕ → ℕ) → role ≡ roles.other → lacks role count ≡ false
+unfolding lacks allMet
+lacks-other role count e = rw e
+
+pub lacks-there : {t : Bool} {role key : ℕ} (count : ℕ → ℕ) → role ≡ key → t ≡ lacks key count → t ≡ lacks role count
+lacks-there count e told = rw e told
+
+-- the tests of the rows of one parent, as the table has them one after the other
+pub one : {r a : Bool} → r ≡ a → not r ≡ not (a && true)
+one told = rw (told, and-true)
+
+pub twice : {r a : Bool} → r ≡ a → not r ≡ not (a && (a && true))
+twice told = rw (told, and-true, and-self)
+
+pub two : {r s a b : Bool} → r ≡ a → s ≡ b → not (r && s) ≡ not (a && (b && true))
+two told also = rw (told, also, and-true)
+
+three : (a b c : Bool) → not (a && b && c) ≡ not (a && (b && (c && true)))
+three a b c = rw (and-true, and-assoc)
+
+six : (a b c d e f : Bool) → not (a && b && c && d && e && f) ≡ not (a && (b && (c && (d && (e && (f && true))))))
+six a b c d e f = simp (and-true, and-assoc)
+
+again : (a b : Bool) → (a && b) ≡ (a && (a && b))
+again true b = refl
+again false b = refl
+
+-- two rows of the table are of one role
+seven : (a b c d e f : Bool) → not (a && b && c && d && e && f) ≡ not (a && (b && (b && (c && (d && (e && (f && true)))))))
+seven a b c d e f = six a b c d e f ∙ ap (λ (t : Bool). not (a && t)) (again b _)
+
+module _ (count : ℕ → ℕ) where
+  abbrev once : ℕ → Bool
+  once role = eqb (count role) 1
+
+  pub header-lacks : not (once roles.bulkIdentifier && once roles.statedNumber && once roles.statedSum && once roles.valueDate && once roles.settlement && once roles.senderAgent) ≡ lacks roles.paymentsHeader count
   unfolding lacks allMet
-  lacks-other e = rw e
+  header-lacks = seven (once roles.bulkIdentifier) (once roles.statedNumber) (once roles.statedSum) (once roles.valueDate) (once roles.settlement) (once roles.senderAgent)
 
-  pub lacks-stranger : role ≡ roles.stranger → lacks role count ≡ true
-  unfolding lacks
-  lacks-stranger e = rw (eq-eqb _ _ e)
+  pub payment-lacks : not (once roles.paymentIdentification && once roles.amount && once roles.receiverAgent) ≡ lacks roles.onePayment count
+  unfolding lacks allMet
+  payment-lacks = three (once roles.paymentIdentification) (once roles.amount) (once roles.receiverAgent)
 
-  pub lacks-met : (role ≡ roles.stranger → ⊥) → (t : Bool) → allMet count rows role ≡ t → lacks role count ≡ not t
-  unfolding lacks
-  lacks-met e t m = rw (ne-eqb _ _ e, m)
+  pub return-lacks : not (once roles.identifier && once roles.originalGroup && once roles.originalAmount && once roles.amount && once roles.reasonInformation && once roles.originalReference) ≡ lacks roles.oneReturn count
+  unfolding lacks allMet
+  return-lacks = six (once roles.identifier) (once roles.originalGroup) (once roles.originalAmount) (once roles.amount) (once roles.reasonInformation) (once roles.originalReference)
 
--- ---- a row
-
-module _ (parent k : ℕ) where
-  pub about-elsewhere : (name : List ℕ) → (rowAt k .parent ≡ parent → ⊥) → false ≡ about (rowAt k) parent name
-  about-elsewhere name e = sym (rw (ne-eqb (rowAt k .parent) parent e))
-
-  pub about-named : (name : List ℕ) → rowAt k .parent ≡ parent → same name (rowAt k .name) ≡ about (rowAt k) parent name
-  about-named name e = sym (rw (eq-eqb (rowAt k .parent) parent e))
-
-  module _ (count : ℕ → ℕ) where
-    pub met-elsewhere : (rowAt k .parent ≡ parent → ⊥) → true ≡ met count (rowAt k) parent
-    met-elsewhere e = sym (rw (ne-eqb (rowAt k .parent) parent e))
-
-    pub met-free : rowAt k .parent ≡ parent → free (rowAt k .role) ≡ true → true ≡ met count (rowAt k) parent
-    met-free e f = sym (rw (eq-eqb (rowAt k .parent) parent e, f))
-
-    pub met-once : rowAt k .parent ≡ parent → free (rowAt k .role) ≡ false → eqb (count (roles.countsAs (rowAt k .role))) 1 ≡ met count (rowAt k) parent
-    met-once e f = sym (rw (eq-eqb (rowAt k .parent) parent e, f))
-
--- ---- a field lacks nothing: no row is about what it holds
-
-unfoldable parentsBelow : List Row → Bool
-parentsBelow [] = true
-parentsBelow (r ∷ rs) = ltb (r .parent) roles.bulkIdentifier && parentsBelow rs
-
-all-below : parentsBelow rows ≡ true
-unfolding parentsBelow
-all-below = refl
-
-met-below : (count : ℕ → ℕ) (role : ℕ) → roles.bulkIdentifier ≤ role → (rs : List Row) → parentsBelow rs ≡ true → allMet count rs role ≡ true
-unfolding allMet parentsBelow
-met-below count role h [] e = refl
-met-below count role h (r ∷ rs) e = by-test (met-below count role h rs) (ltb (r .parent) roles.bulkIdentifier) refl e
-  where
-    by-test : (parentsBelow rs ≡ true → allMet count rs role ≡ true) → (t : Bool) → ltb (r .parent) roles.bulkIdentifier ≡ t → (t && parentsBelow rs) ≡ true
-        → ((not (eqb (r .parent) role) || free (r .role) || eqb (count (roles.countsAs (r .role))) 1) && allMet count rs role) ≡ true
-    by-test rest true p q = let low = ltb-true (r .parent) roles.bulkIdentifier p in rw (ne-eqb (r .parent) role (λ (z : r .parent ≡ role). absurd (omega arith)), rest q)
-    by-test rest false p q = absurd (false≢true q)
-
+-- a field lacks nothing
 pub field-complete : (count : ℕ → ℕ) (role : ℕ) → roles.bulkIdentifier ≤ role → lacks role count ≡ false
-field-complete count role h = lacks-met role count (λ z. absurd (omega arith)) true (met-below count role h rows all-below)
+field-complete count role h = lacks-none role (λ low. omega arith) count (λ e. absurd (omega arith))
 
 -- ---- only whether a count is 1 matters
 

@@ -2,11 +2,9 @@
 use Prim.Native.Nat.{ℕ}
 use Prim.Native.String.{String}
 use mathlib.Core.Bool.{Bool, true, cond, not, _&&_, _||_}
-use mathlib.Core.List.{List, [], _∷_, _++_, map}
-use lib.ListN.{length, getD, take, replicate}
+use mathlib.Core.List.{List, [], _∷_}
 use lib.Dec.{eqb}
 use Rattle.wire.specs.Field.{text, same}
-use Rattle.wire.specs.Written.{joined}
 use Rattle.paths.specs.Roles as roles
 
 pub record Row : Type 0 where
@@ -17,9 +15,13 @@ pub record Row : Type 0 where
 abbrev pub row : ℕ → String → ℕ → Row
 row parent name role = record { parent = parent; name = text name; role = role }
 
--- the element that holds the receiver's BIC: the creditor's agent (002, section 4.5)
+-- the element that holds the BIC of a payment's receiver: the creditor's agent (002, section 4.5)
 abbrev pub receiverPath : String
 receiverPath = "CdtrAgt"
+
+-- the same of a return, in the reference to the original
+abbrev pub returnReceiverPath : String
+returnReceiverPath = "CdtrAgt"
 
 abbrev pub rows : List Row
 rows =
@@ -65,29 +67,8 @@ rows =
     ∷ row roles.originalGroup "OrgnlMsgNmId" roles.originalName
     ∷ row roles.reasonInformation "Rsn" roles.reasonGroup
     ∷ row roles.reasonGroup "Cd" roles.reason
-    ∷ row roles.originalReference receiverPath roles.receiverAgent
+    ∷ row roles.originalReference returnReceiverPath roles.receiverAgent
     ∷ []
-
-abbrev pub rowCount : ℕ
-rowCount = length rows
-
--- a row by its number
-abbrev pub rowAt : ℕ → Row
-rowAt k = getD rows k (row roles.other "" roles.other)
-
--- ---- how the code keeps the table: a byte of each row in each text, and the names filled up with spaces
-
-abbrev pub parentBytes : List ℕ
-parentBytes = map (λ (r : Row). r .parent) rows
-
-abbrev pub playedBytes : List ℕ
-playedBytes = map (λ (r : Row). r .role) rows
-
-abbrev pub lengthBytes : List ℕ
-lengthBytes = map (λ (r : Row). length (r .name)) rows
-
-abbrev pub nameBytes : List ℕ
-nameBytes = joined (map (λ (r : Row). take 21 (r .name ++ replicate 21 32)) rows)
 
 -- ---- which role a child plays
 

@@ -1,11 +1,12 @@
-// The paths to the needed elements, as roles: a table of what a child of a name plays in an element of a role. Proved: which role that is,
-// and whether an element lacks something needed, by the table of the definitions.
+// The paths to the needed elements, as roles: what a child of a name plays in an element of a role. Proved: which role that is, and whether
+// an element lacks something needed, by the table of the definitions.
+mod children;
+
 ghost use mathlib.Core.Path.{_≡_};
-ghost use Prim.Native.Nat.{_<_};
 ghost use lib.ListN.{getD};
 ghost use lib.Dec.{eqb};
-ghost use Rattle.paths.specs.Roles.{isAmount, isMessage, countsAs};
-ghost use Rattle.paths.specs.Table.{rowCount, rowAt, parentBytes, playedBytes, lengthBytes, nameBytes, about, childRole, rootRole, met, lacks, free};
+ghost use Rattle.paths.specs.Roles.{paymentsHeader, onePayment, oneReturn, isAmount, isMessage, countsAs};
+ghost use Rattle.paths.specs.Table.{childRole, rootRole, lacks};
 
 pub const OTHER: usize = 0;
 
@@ -77,11 +78,6 @@ pub const ORIGINAL_NAME: usize = 33;
 
 pub const ROLES: usize = 34;
 
-const ROWS: usize = 43;
-
-// How many bytes a row has for its name.
-const NAME_WIDTH: usize = 21;
-
 pub fn root_role(name: &[u8]) -> usize
     ensures { λ r. ⌜ r ≡ rootRole (now (name .entry)) ⌝ }
 {
@@ -92,50 +88,31 @@ pub fn root_role(name: &[u8]) -> usize
     }
 }
 
-fn number_at(s: &[u8], k: usize) -> usize
-    ensures { λ r. ⌜ r ≡ getD (now (s .entry)) k 0 ⌝ }
-{
-    if k < s.len() { s[k] as usize } else { 0 }
-}
-
-// Whether a row is about a child of a name in an element of a role. The code's tables are handed in: the compiler builds a text where it
-// is written, so a search builds each once.
-fn tells(parent: usize, name: &[u8], k: usize, parents: &[u8], lengths: &[u8], names: &[u8]) -> bool
-    requires { ⌜ (k < rowCount) × (now parents ≡ parentBytes) × (now lengths ≡ lengthBytes) × (now names ≡ nameBytes) ⌝ }
-    ensures { λ r. ⌜ r ≡ about (rowAt k) parent (now (name .entry)) ⌝ }
-{
-    if number_at(parents, k) != parent {
-        return false;
-    }
-    texts::same(
-        name,
-        wire::text_at(names, NAME_WIDTH * k, number_at(lengths, k)),
-    )
-}
-
 // The role of a child of a name, in an element of a role.
 pub fn child_role(parent: usize, name: &[u8]) -> usize
     ensures { λ r. ⌜ r ≡ childRole parent (now (name .entry)) ⌝ }
 {
-    if parent == OTHER {
-        return OTHER;
+    match parent {
+        DOCUMENT => children::in_document(name),
+        PAYMENTS => children::in_payments(name),
+        RETURNS => children::in_returns(name),
+        PAYMENTS_HEADER => children::in_payments_header(name),
+        RETURNS_HEADER => children::in_returns_header(name),
+        SETTLEMENT => children::in_settlement(name),
+        CLEARING => children::only(name, b"Prtry", SYSTEM),
+        SENDER_AGENT => children::in_agent(name, SENDER_INSTITUTION),
+        SENDER_INSTITUTION => children::only(name, b"BICFI", SENDER),
+        ONE_PAYMENT => children::in_one_payment(name),
+        ONE_RETURN => children::in_one_return(name),
+        PAYMENT_IDENTIFICATION => children::only(name, b"TxId", IDENTIFIER),
+        RECEIVER_AGENT => children::in_agent(name, RECEIVER_INSTITUTION),
+        RECEIVER_INSTITUTION => children::only(name, b"BICFI", RECEIVER),
+        ORIGINAL_GROUP => children::in_original_group(name),
+        REASON_INFORMATION => children::only(name, b"Rsn", REASON_GROUP),
+        REASON_GROUP => children::only(name, b"Cd", REASON),
+        ORIGINAL_REFERENCE => children::in_original_reference(name),
+        _ => OTHER,
     }
-    let parents =
-        b"\x02\x02\x03\x03\x04\x04\x05\x05\x05\x05\x05\x05\x05\x05\x06\x06\x06\x06\x06\x06\x06\x06\x07\x07\x08\x09\x0a\x0b\x0b\x0b\x0d\x0e\x0f\x0c\x0c\x0c\x0c\x0c\x0c\x10\x11\x12\x13";
-    let played =
-        b"\x03\x04\x05\x0b\x06\x0c\x15\x16\x16\x17\x18\x07\x09\x14\x15\x16\x16\x17\x18\x07\x09\x14\x19\x08\x1a\x0a\x1b\x0d\x1e\x0e\x1c\x0f\x1d\x1c\x10\x1f\x1e\x11\x13\x21\x12\x20\x0e";
-    let lengths =
-        b"\x11\x06\x06\x0b\x06\x05\x05\x07\x07\x11\x0d\x08\x08\x08\x05\x07\x07\x15\x0d\x08\x08\x08\x08\x06\x05\x0a\x05\x05\x0e\x07\x04\x0a\x05\x05\x0b\x13\x12\x09\x0a\x0c\x03\x02\x07";
-    let names =
-        b"FIToFICstmrCdtTrf    PmtRtr               GrpHdr               CdtTrfTxInf          GrpHdr               TxInf                MsgId                NbOfTxS              NbOfTxs              TtlIntrBkSttlmAmt    IntrBkSttlmDt        SttlmInf             InstgAgt             InstdAgt             MsgId                NbOfTxS              NbOfTxs              TtlRtrdIntrBkSttlmAmtIntrBkSttlmDt        SttlmInf             InstgAgt             InstdAgt             SttlmMtd             ClrSys               Prtry                FinInstnId           BICFI                PmtId                IntrBkSttlmAmt       CdtrAgt              TxId                 FinInstnId           BICFI                RtrId                OrgnlGrpInf          OrgnlIntrBkSttlmAmt  RtrdIntrBkSttlmAmt   RtrRsnInf            OrgnlTxRef           OrgnlMsgNmId         Rsn                  Cd                   CdtrAgt              ";
-    let mut k = 0;
-    while k < ROWS {
-        if tells(parent, name, k, parents, lengths, names) {
-            return number_at(played, k);
-        }
-        k += 1;
-    }
-    OTHER
 }
 
 pub fn is_message(role: usize) -> bool
@@ -148,13 +125,6 @@ pub fn is_amount(role: usize) -> bool
     ensures { λ r. ⌜ r ≡ isAmount role ⌝ }
 {
     (role == STATED_SUM) | (role == AMOUNT) | (role == ORIGINAL_AMOUNT)
-}
-
-// Whether a child of a role may be missing, or stand more than once.
-fn is_free(role: usize) -> bool
-    ensures { λ r. ⌜ r ≡ free role ⌝ }
-{
-    is_message(role) | (role == RECIPIENT)
 }
 
 // The role that an element is counted as.
@@ -174,41 +144,59 @@ fn once(counts: &[u8], role: usize) -> bool
     }
 }
 
-// Whether what a row asks for is there.
-fn meets(role: usize, counts: &[u8], k: usize, parents: &[u8], played: &[u8]) -> bool
-    requires { ⌜ (k < rowCount) × (now parents ≡ parentBytes) × (now played ≡ playedBytes) ⌝ }
-    ensures { λ r. ⌜ r ≡ met (λ i. getD (now (counts .entry)) i 0) (rowAt k) role ⌝ }
+// Whether a bulk's header lacks something, by how often each role was counted among its children.
+fn header_lacks(counts: &[u8]) -> bool
+    ensures { λ r. ⌜ r ≡ lacks paymentsHeader (λ k. getD (now (counts .entry)) k 0) ⌝ }
 {
-    if number_at(parents, k) != role {
-        return true;
-    }
-    let role_played = number_at(played, k);
-    if is_free(role_played) {
-        return true;
-    }
-    once(counts, counts_as(role_played))
+    !(once(counts, BULK_IDENTIFIER)
+        & once(counts, STATED_NUMBER)
+        & once(counts, STATED_SUM)
+        & once(counts, VALUE_DATE)
+        & once(counts, SETTLEMENT)
+        & once(counts, SENDER_AGENT))
 }
 
-// Whether an element of a role lacks something, by how often each role was counted among its children.
+fn payment_lacks(counts: &[u8]) -> bool
+    ensures { λ r. ⌜ r ≡ lacks onePayment (λ k. getD (now (counts .entry)) k 0) ⌝ }
+{
+    !(once(counts, PAYMENT_IDENTIFICATION) & once(counts, AMOUNT) & once(counts, RECEIVER_AGENT))
+}
+
+fn return_lacks(counts: &[u8]) -> bool
+    ensures { λ r. ⌜ r ≡ lacks oneReturn (λ k. getD (now (counts .entry)) k 0) ⌝ }
+{
+    !(once(counts, IDENTIFIER)
+        & once(counts, ORIGINAL_GROUP)
+        & once(counts, ORIGINAL_AMOUNT)
+        & once(counts, AMOUNT)
+        & once(counts, REASON_INFORMATION)
+        & once(counts, ORIGINAL_REFERENCE))
+}
+
+// The same for an element of any role. What no row has as its parent lacks nothing, but a stranger lacks the document.
 pub fn lacking(role: usize, counts: &[u8]) -> bool
     ensures { λ r. ⌜ r ≡ lacks role (λ k. getD (now (counts .entry)) k 0) ⌝ }
 {
-    if role == OTHER {
-        return false;
+    match role {
+        STRANGER => true,
+        DOCUMENT => !once(counts, PAYMENTS),
+        PAYMENTS => !once(counts, PAYMENTS_HEADER),
+        RETURNS => !once(counts, RETURNS_HEADER),
+        PAYMENTS_HEADER => header_lacks(counts),
+        RETURNS_HEADER => header_lacks(counts),
+        SETTLEMENT => !(once(counts, METHOD) & once(counts, CLEARING)),
+        CLEARING => !once(counts, SYSTEM),
+        SENDER_AGENT => !once(counts, SENDER_INSTITUTION),
+        SENDER_INSTITUTION => !once(counts, SENDER),
+        ONE_PAYMENT => payment_lacks(counts),
+        ONE_RETURN => return_lacks(counts),
+        PAYMENT_IDENTIFICATION => !once(counts, IDENTIFIER),
+        RECEIVER_AGENT => !once(counts, RECEIVER_INSTITUTION),
+        RECEIVER_INSTITUTION => !once(counts, RECEIVER),
+        ORIGINAL_GROUP => !once(counts, ORIGINAL_NAME),
+        REASON_INFORMATION => !once(counts, REASON_GROUP),
+        REASON_GROUP => !once(counts, REASON),
+        ORIGINAL_REFERENCE => !once(counts, RECEIVER_AGENT),
+        _ => false,
     }
-    if role == STRANGER {
-        return true;
-    }
-    let parents =
-        b"\x02\x02\x03\x03\x04\x04\x05\x05\x05\x05\x05\x05\x05\x05\x06\x06\x06\x06\x06\x06\x06\x06\x07\x07\x08\x09\x0a\x0b\x0b\x0b\x0d\x0e\x0f\x0c\x0c\x0c\x0c\x0c\x0c\x10\x11\x12\x13";
-    let played =
-        b"\x03\x04\x05\x0b\x06\x0c\x15\x16\x16\x17\x18\x07\x09\x14\x15\x16\x16\x17\x18\x07\x09\x14\x19\x08\x1a\x0a\x1b\x0d\x1e\x0e\x1c\x0f\x1d\x1c\x10\x1f\x1e\x11\x13\x21\x12\x20\x0e";
-    let mut k = 0;
-    while k < ROWS {
-        if !meets(role, counts, k, parents, played) {
-            return true;
-        }
-        k += 1;
-    }
-    false
 }

@@ -1,38 +1,40 @@
--- `paths::child_role` meets its contract: the search from row k on finds what the whole search does. Assumes nothing.
-use mathlib.Core.Path.{_≡_, refl, sym, _∙_}
-use Prim.Native.Nat.{_≤_, _-_}
+-- `paths::child_role` meets its contract: the arms of the match are the parents of the table. Assumes nothing.
+use mathlib.Core.Path.{_≡_, sym}
 use native.Mathlib.Omega.{arith}
-use lib.ListN.{drop}
 use borrow.Author.Needs.{needs}
-use Rattle.paths.specs.Table.{rows, among, childRole}
-use Rattle.paths.proofs.Rows.{no-others, played-right, among-here, among-more, among-ends}
+use Rattle.paths.specs.Table.{among, childRole}
+use Rattle.paths.proofs.Rows.{there, child-none, beyond}
 use Rattle.paths.proofs.child_role.Statement.{statement}
 use Rattle.paths.proofs.child_role.Tie as tie
 
-abbrev Inv-loop : tie.InvT-loop
-Inv-loop parent name parents played lengths names k₀ k = (k ≤ 43) × (among (drop k rows) parent name ≡ childRole parent name)
-
-abbrev μ-loop : tie.MeasureT-loop
-μ-loop parent name parents played lengths names k₀ k = 43 - k
-
-returns : tie.Need-returns Inv-loop μ-loop
-returns c = sym (rw (c .if1 .taken) (no-others (c .before .before .args .name .now)))
-
-loop-holds : tie.Need-loop-holds Inv-loop μ-loop
-unfolding childRole
-loop-holds c = (search needs, refl)
-
-tells-requires : tie.Need-tells-requires Inv-loop μ-loop
-tells-requires c κs = (c .before .before .before .loop-test .taken, refl, refl, refl)
-
-returns-2 : tie.Need-returns-2 Inv-loop μ-loop
-returns-2 c = c .number-at .ensures ∙ played-right (c .before .before .before .before .before .before .before .before .loop .k) (c .before .before .before .before .before .before .before .loop-test .taken) ∙ sym (among-here (c .before .before .before .before .before .before .before .before .before .before .before .before .before .before .before .args .parent) (c .before .before .before .before .before .before .before .before .before .before .before .before .before .before .before .args .name .now) (c .before .before .before .before .before .before .before .before .loop .k) (c .before .before .before .before .before .before .before .loop-test .taken) (sym (c .before .before .before .tells .ensures) ∙ c .before .before .if2 .taken)) ∙ c .before .before .before .before .before .before .before .before .loop .inv .1
-
-loop-again : tie.Need-loop-again Inv-loop μ-loop
-loop-again c = (search needs, among-more (c .before .before .before .before .before .before .before .before .before .before .before .before .before .args .parent) (c .before .before .before .before .before .before .before .before .before .before .before .before .before .args .name .now) (c .before .before .before .before .before .before .loop .k) (c .before .before .before .before .before .loop-test .taken) (sym (c .before .tells .ensures) ∙ c .if2 .left) ∙ c .before .before .before .before .before .before .loop .inv .1)
-
-returns-3 : tie.Need-returns-3 Inv-loop μ-loop
-returns-3 c = sym (among-ends (c .before .before .before .before .before .before .before .before .args .parent) (c .before .before .before .before .before .before .before .before .args .name .now) (c .before .loop .k) (c .loop-test .left)) ∙ c .before .loop .inv .1
+returns-19 : tie.Need-returns-19
+returns-19 c = sym (child-none (c .before .before .args .parent) (λ low. omega (arith, beyond (c .before .before .args .parent) 2 18 (c .match .rest) low)) (c .before .before .args .name .now))
 
 pub child-role-spec : {M : Type 1} → statement M
-child-role-spec = tie.close (tie.spec Inv-loop μ-loop returns loop-holds tells-requires (λ c κs. search needs) returns-2 (λ c. search needs) (λ c. search needs) loop-again returns-3)
+unfolding childRole among
+child-role-spec =
+    tie.close
+    (tie.spec
+    (λ c κs. search needs) (λ c κs. search needs) (λ c κs. search needs) (λ c κs. search needs) (λ c κs. search needs) (λ c κs. search needs)
+    (λ c. search needs) (λ c κs. search needs) (λ c κs. search needs) (λ c. search needs) (λ c κs. search needs) (λ c κs. search needs)
+    (λ c κs. search needs) (λ c. search needs) (λ c κs. search needs) (λ c κs. search needs) (λ c. search needs) (λ c κs. search needs)
+    (λ c κs. search needs) (λ c. search needs) (λ c κs. search needs) (λ c. search needs) (λ c κs. search needs) (λ c κs. search needs)
+    (λ c. there (c .before .before .before .args .name .now) (c .before .match .keys1) (c .in-document .ensures))
+    (λ c. there (c .before .before .before .args .name .now) (c .before .match .keys2) (c .in-payments .ensures))
+    (λ c. there (c .before .before .before .args .name .now) (c .before .match .keys3) (c .in-returns .ensures))
+    (λ c. there (c .before .before .before .args .name .now) (c .before .match .keys4) (c .in-payments-header .ensures))
+    (λ c. there (c .before .before .before .args .name .now) (c .before .match .keys5) (c .in-returns-header .ensures))
+    (λ c. there (c .before .before .before .args .name .now) (c .before .match .keys6) (c .in-settlement .ensures))
+    (λ c. there (c .before .before .before .before .args .name .now) (c .before .before .match .keys7) (c .only .ensures))
+    (λ c. there (c .before .before .before .args .name .now) (c .before .match .keys8) (c .in-agent .ensures))
+    (λ c. there (c .before .before .before .before .args .name .now) (c .before .before .match .keys9) (c .only2 .ensures))
+    (λ c. there (c .before .before .before .args .name .now) (c .before .match .keys10) (c .in-one-payment .ensures))
+    (λ c. there (c .before .before .before .args .name .now) (c .before .match .keys11) (c .in-one-return .ensures))
+    (λ c. there (c .before .before .before .before .args .name .now) (c .before .before .match .keys12) (c .only3 .ensures))
+    (λ c. there (c .before .before .before .args .name .now) (c .before .match .keys13) (c .in-agent2 .ensures))
+    (λ c. there (c .before .before .before .before .args .name .now) (c .before .before .match .keys14) (c .only4 .ensures))
+    (λ c. there (c .before .before .before .args .name .now) (c .before .match .keys15) (c .in-original-group .ensures))
+    (λ c. there (c .before .before .before .before .args .name .now) (c .before .before .match .keys16) (c .only5 .ensures))
+    (λ c. there (c .before .before .before .before .args .name .now) (c .before .before .match .keys17) (c .only6 .ensures))
+    (λ c. there (c .before .before .before .args .name .now) (c .before .match .keys18) (c .in-original-reference .ensures))
+    returns-19)

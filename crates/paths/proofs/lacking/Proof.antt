@@ -1,43 +1,44 @@
--- `paths::lacking` meets its contract: the rows from row k on are met exactly if all are. Assumes nothing.
-use mathlib.Core.Path.{_≡_, refl, sym, _∙_}
-use mathlib.Core.Bool.{true, false}
-use Prim.Native.Nat.{_≤_, _-_}
+-- `paths::lacking` meets its contract: the arms of the match are a stranger and the parents of the table. Assumes nothing.
+use mathlib.Core.Path.{_≡_, refl, sym}
 use native.Mathlib.Omega.{arith}
-use lib.ListN.{drop, getD}
+use lib.ListN.{getD}
 use borrow.Author.Needs.{needs}
-use borrow.Author.Tests.{not-true, not-false}
-use Rattle.paths.specs.Table.{rows, allMet, lacks}
-use Rattle.paths.proofs.Rows.{lacks-other, lacks-stranger, lacks-met, met-fails, met-more, met-ends}
+use Rattle.paths.specs.Table.{allMet, lacks}
+use Rattle.paths.proofs.Rows.{lacks-there, lacks-none, beyond, one, two, twice}
 use Rattle.paths.proofs.lacking.Statement.{statement}
 use Rattle.paths.proofs.lacking.Tie as tie
 
-abbrev Inv-loop : tie.InvT-loop
-Inv-loop role counts parents played k₀ k = (k ≤ 43) × (allMet (λ i. getD counts i 0) (drop k rows) role ≡ allMet (λ i. getD counts i 0) rows role)
-
-abbrev μ-loop : tie.MeasureT-loop
-μ-loop role counts parents played k₀ k = 43 - k
-
-returns : tie.Need-returns Inv-loop μ-loop
-returns c = sym (lacks-other _ _ (c .if1 .taken))
-
-returns-2 : tie.Need-returns-2 Inv-loop μ-loop
-returns-2 c = sym (lacks-stranger _ _ (c .if2 .taken))
-
-meets-requires : tie.Need-meets-requires Inv-loop μ-loop
-meets-requires c κs = (c .before .before .loop-test .taken, refl, refl)
-
-returns-3 : tie.Need-returns-3 Inv-loop μ-loop
-returns-3 c =
-    sym (lacks-met (c .before .before .before .before .before .before .before .before .before .before .before .args .role) (λ i. getD (c .before .before .before .before .before .before .before .before .before .before .before .args .counts .now) i 0) (c .before .before .before .before .before .before .before .before .if2 .left) false
-    (sym (c .before .before .before .before .before .loop .inv .1) ∙ met-fails _ (c .before .before .before .before .before .before .before .before .before .before .before .args .role) (c .before .before .before .before .before .loop .k) (c .before .before .before .before .loop-test .taken) (sym (c .before .meets .ensures) ∙ not-true _ (c .if3 .taken))))
-
-loop-again : tie.Need-loop-again Inv-loop μ-loop
-loop-again c = (search needs, met-more _ (c .before .before .before .before .before .before .before .before .before .before .before .args .role) (c .before .before .before .before .before .loop .k) (c .before .before .before .before .loop-test .taken) (sym (c .before .meets .ensures) ∙ not-false _ (c .if3 .left)) ∙ c .before .before .before .before .before .loop .inv .1)
-
-returns-4 : tie.Need-returns-4 Inv-loop μ-loop
-returns-4 c =
-    sym (lacks-met (c .before .before .before .before .before .before .before .args .role) (λ i. getD (c .before .before .before .before .before .before .before .args .counts .now) i 0) (c .before .before .before .before .if2 .left) true
-    (sym (c .before .loop .inv .1) ∙ met-ends _ (c .before .before .before .before .before .before .before .args .role) (c .before .loop .k) (c .loop-test .left)))
+returns-20 : tie.Need-returns-20
+returns-20 c =
+    let above = beyond (c .before .before .args .role) 1 19 (c .match .rest) in
+    sym (lacks-none (c .before .before .args .role) (λ low. omega (arith, above (omega arith))) (λ k. getD (c .before .before .args .counts .now) k 0) (λ e. absurd (omega (arith, above (omega arith)))))
 
 pub lacking-spec : {M : Type 1} → statement M
-lacking-spec = tie.close (tie.spec Inv-loop μ-loop returns returns-2 (λ c. (search needs, refl)) meets-requires returns-3 (λ c. search needs) (λ c. search needs) loop-again returns-4)
+unfolding lacks allMet
+lacking-spec =
+    tie.close
+    (tie.spec
+    (λ c κs. search needs) (λ c κs. search needs) (λ c κs. search needs) (λ c κs. search needs) (λ c κs. search needs) (λ c κs. search needs)
+    (λ c κs. search needs) (λ c κs. search needs) (λ c κs. search needs) (λ c κs. search needs) (λ c κs. search needs) (λ c κs. search needs)
+    (λ c κs. search needs) (λ c κs. search needs) (λ c κs. search needs) (λ c κs. search needs) (λ c κs. search needs) (λ c κs. search needs)
+    (λ c κs. search needs)
+    (λ c. lacks-there (λ k. getD (c .before .before .args .counts .now) k 0) (c .match .keys1) refl)
+    (λ c. lacks-there (λ k. getD (c .before .before .before .args .counts .now) k 0) (c .before .match .keys2) (twice (c .once .ensures)))
+    (λ c. lacks-there (λ k. getD (c .before .before .before .args .counts .now) k 0) (c .before .match .keys3) (one (c .once2 .ensures)))
+    (λ c. lacks-there (λ k. getD (c .before .before .before .args .counts .now) k 0) (c .before .match .keys4) (one (c .once3 .ensures)))
+    (λ c. lacks-there (λ k. getD (c .before .before .before .args .counts .now) k 0) (c .before .match .keys5) (c .header-lacks .ensures))
+    (λ c. lacks-there (λ k. getD (c .before .before .before .args .counts .now) k 0) (c .before .match .keys6) (c .header-lacks2 .ensures))
+    (λ c. lacks-there (λ k. getD (c .before .before .before .before .args .counts .now) k 0) (c .before .before .match .keys7) (two (c .before .once4 .ensures) (c .once5 .ensures)))
+    (λ c. lacks-there (λ k. getD (c .before .before .before .args .counts .now) k 0) (c .before .match .keys8) (one (c .once6 .ensures)))
+    (λ c. lacks-there (λ k. getD (c .before .before .before .args .counts .now) k 0) (c .before .match .keys9) (one (c .once7 .ensures)))
+    (λ c. lacks-there (λ k. getD (c .before .before .before .args .counts .now) k 0) (c .before .match .keys10) (one (c .once8 .ensures)))
+    (λ c. lacks-there (λ k. getD (c .before .before .before .args .counts .now) k 0) (c .before .match .keys11) (c .payment-lacks .ensures))
+    (λ c. lacks-there (λ k. getD (c .before .before .before .args .counts .now) k 0) (c .before .match .keys12) (c .return-lacks .ensures))
+    (λ c. lacks-there (λ k. getD (c .before .before .before .args .counts .now) k 0) (c .before .match .keys13) (one (c .once9 .ensures)))
+    (λ c. lacks-there (λ k. getD (c .before .before .before .args .counts .now) k 0) (c .before .match .keys14) (one (c .once10 .ensures)))
+    (λ c. lacks-there (λ k. getD (c .before .before .before .args .counts .now) k 0) (c .before .match .keys15) (one (c .once11 .ensures)))
+    (λ c. lacks-there (λ k. getD (c .before .before .before .args .counts .now) k 0) (c .before .match .keys16) (one (c .once12 .ensures)))
+    (λ c. lacks-there (λ k. getD (c .before .before .before .args .counts .now) k 0) (c .before .match .keys17) (one (c .once13 .ensures)))
+    (λ c. lacks-there (λ k. getD (c .before .before .before .args .counts .now) k 0) (c .before .match .keys18) (one (c .once14 .ensures)))
+    (λ c. lacks-there (λ k. getD (c .before .before .before .args .counts .now) k 0) (c .before .match .keys19) (one (c .once15 .ensures)))
+    returns-20)
