@@ -5,7 +5,7 @@ use mathlib.Core.List.{List, [], _∷_, _++_, append-nil}
 use Prim.Native.Nat.{ℕ, zero, suc, _+_, _-_, _*_, _≤_, _<_}
 use native.Mathlib.Omega.{arith}
 use lib.Dec.{eqb, ltb}
-use lib.ListN.{length, getD, replicate}
+use lib.ListN.{length, getD, set}
 use lib.Seq.{sets}
 use borrow.Author.Tests.{eqb-true, eqb-false, ne-eqb}
 use Rattle.letters.specs.Places.{byteAt}
@@ -16,18 +16,16 @@ use Rattle.tags.specs.Tags.{startAt, endAt}
 use Rattle.tags.specs.declared.Tag.the-variants.{Open, Empty, Faulty}
 use Rattle.paths.specs.Roles as roles
 use Rattle.records.specs.Records.{messageOf}
-use Rattle.records.proofs.Laws.{message-alike}
 use Rattle.elements.specs.Forest.{Forest, none, tree}
 use Rattle.elements.specs.Grammar.{Parsed, read, broken, deep, onRead, onReached, whole, groupAt, elementAt, contentAt}
 use Rattle.elements.specs.Notes.{stepOf, noted, notesOf}
-use Rattle.elements.specs.Questions.{placeIn, messagesIn}
+use Rattle.elements.specs.Questions.{messagesIn}
 use Rattle.elements.proofs.Forward.{Went, went, Reached, reached}
 use Rattle.elements.proofs.Elements.{element-group}
-use Rattle.elements.proofs.Noting.{noted-place}
 use Rattle.elements.proofs.Calm.{Held, element-held, element-quiet}
-use Rattle.reading.specs.Meaning.{placesIn}
-use Rattle.reading.specs.Filling.{messageBytes, messagesBytes, Ready, Filled, placeOf, reachedPlace, busy}
+use Rattle.reading.specs.Filling.{messageBytes, forgotten, Ready, Filled, HeaderNoted, placeOf, reachedPlace, busy}
 use Rattle.reading.specs.declared.Put.{Put}
+use Rattle.reading.proofs.Carrying.{carried-none, carried-group, carried-noted, message-own, message-carried}
 
 -- what is known of a message's role, by what it is
 message-role : (role : ℕ) (P : ℕ → Type 0) → P roles.onePayment → P roles.oneReturn → roles.isMessage role ≡ true → P role
@@ -57,15 +55,25 @@ unread s role at n f depth z e = by-test (ltb at (length s)) (nameStart (byteAt 
     by-test true false e = absurd (let z : _≡_ {A = ℕ} 0 1 = cc in omega arith)
     by-test false u e = absurd (let z : _≡_ {A = ℕ} 0 1 = cc in omega arith)
 
-module _ (depth : ℕ) (s : List ℕ) (role j at : ℕ) (d : List ℕ) (ready : Ready (elementAt depth s role j) at d) where
+module _ (depth : ℕ) (s : List ℕ) (role j at : ℕ) (d before : List ℕ) (ready : Ready (elementAt depth s role j) at d before) where
   abbrev n : ℕ
   n = ready .end
 
   abbrev f : Forest
   f = ready .forest
 
+  -- its messages are written, and the notes go on
+  abbrev Put-so : Parsed → List ℕ → List ℕ → Put → Type 0
+  Put-so p after notes put = Filled s p at d after put × HeaderNoted p before notes
+
+  put-so : (after notes : List ℕ) (put : Put) → Put-so (read n f) after notes put → Put-so (elementAt depth s role j) after notes put
+  put-so after notes put told = rw (ready .was) told
+
   pub levels-left : depth ≡ 0 → ⊥
   levels-left z = unread s role j n f depth z (ready .was)
+
+  read-notes : (notes given : List ℕ) → given ≡ notesOf (elementAt depth s role j) notes → given ≡ noted f notes
+  read-notes notes given e = e ∙ ap (λ (p : Parsed). notesOf p notes) (ready .was)
 
   -- ---- a message
 
@@ -82,35 +90,29 @@ module _ (depth : ℕ) (s : List ℕ) (role j at : ℕ) (d : List ℕ) (ready : 
   pub message-room : roles.isMessage role ≡ true → at + 81 ≤ length d
   message-room m = let one : length (messagesIn f) ≡ 1 = ap length (message-is m) in omega (arith, ready .room)
 
-  noted-alike : (k : ℕ) → 0 < k → k < roles.roles → getD (notesOf (elementAt depth s role j) (replicate 36 0)) k 0 ≡ placesIn f k
-  noted-alike k some low = rw (ready .was) (noted-place k some low f (replicate 36 0) refl ∙ ap (placeIn k f) (zeros 36 k))
-    where
-      zeros : (n k : ℕ) → getD {A = ℕ} (replicate n 0) k 0 ≡ 0
-      zeros zero k = refl
-      zeros (suc n) zero = refl
-      zeros (suc n) (suc k) = zeros n k
-
-  pub message-filled : roles.isMessage role ≡ true → (put : Put) (after : List ℕ) → put .next ≡ placeOf (stepOf (elementAt depth s role j)) → put .at ≡ at + 81
-      → after ≡ sets d at (messageOf s (λ k. getD (notesOf (elementAt depth s role j) (replicate 36 0)) k 0)) → Filled s (elementAt depth s role j) at d after put
-  message-filled m put after next place wrote =
-      let told : Filled s (read n f) at d after put = (
-        next ∙ (rw (ready .was)),
-        place ∙ (rw (message-is m)),
-        wrote ∙ ap (sets d at) (message-alike s (λ k. getD (notesOf (elementAt depth s role j) (replicate 36 0)) k 0) (placesIn f) noted-alike ∙ sym (append-nil (messageBytes s f))) ∙ (rw (message-is m)),
-      ) in
-      rw (ready .was) told
+  pub message-put : roles.isMessage role ≡ true → (put : Put) (after notes : List ℕ) → put .next ≡ placeOf (stepOf (elementAt depth s role j)) → put .at ≡ at + 81
+      → notes ≡ notesOf (elementAt depth s role j) (forgotten before) → after ≡ sets d at (messageOf s (λ k. getD notes k 0)) → Put-so (elementAt depth s role j) after notes put
+  message-put m put after notes next place its wrote =
+      let own = read-notes (forgotten before) notes its in
+      put-so after notes put (
+        (
+          next ∙ (rw (ready .was)),
+          place ∙ (rw (message-is m)),
+          wrote ∙ ap (sets d at) (message-own f before notes (ready .sized) own s ∙ sym (append-nil (messageBytes s f))) ∙ (rw (message-is m)),
+        ),
+        message-carried f before notes (ready .sized) own,
+      )
 
   -- ---- something without messages
 
   none-more : messagesIn f ≡ [] → at ≡ at + 81 * length (messagesIn f)
   none-more hush = rw hush (omega arith)
 
-  pub quiet-filled : roles.isMessage role ≡ false → busy role ≡ false → (put : Put) → put .next ≡ placeOf (stepOf (elementAt depth s role j)) → put .at ≡ at
-      → Filled s (elementAt depth s role j) at d d put
-  quiet-filled m b put next place =
+  pub quiet-put : roles.isMessage role ≡ false → busy role ≡ false → (put : Put) (notes : List ℕ) → put .next ≡ placeOf (stepOf (elementAt depth s role j)) → put .at ≡ at
+      → notes ≡ notesOf (elementAt depth s role j) before → Put-so (elementAt depth s role j) d notes put
+  quiet-put m b put notes next place its =
       let hush = element-quiet depth s role j n f (rw (b, m)) (ready .was) in
-      let told : Filled s (read n f) at d d put = (next ∙ (rw (ready .was)), place ∙ none-more hush, rw hush) in
-      rw (ready .was) told
+      put-so d notes put ((next ∙ (rw (ready .was)), place ∙ none-more hush, rw hush), rw (read-notes before notes its) (carried-noted f before (ready .sized)))
 
   -- ---- a group that may hold messages
 
@@ -124,9 +126,12 @@ module _ (depth : ℕ) (s : List ℕ) (role j at : ℕ) (d : List ℕ) (ready : 
     noted-so : (g : Forest) → whole role j g ≡ tree role j g none
     noted-so g = rw (busy-role role (λ r. eqb r roles.other ≡ false) refl refl refl b)
 
-    same-messages : (g : Forest) → f ≡ whole role j g → messagesIn f ≡ messagesIn g
+    pub has-note : (notes : List ℕ) → length notes ≡ length before → role < length notes
+    has-note notes same = let low = busy-role role (λ r. r < roles.bulkIdentifier) (omega arith) (omega arith) (omega arith) b in omega (arith, ready .sized)
+
+    same-messages : (g : Forest) → f ≡ tree role j g none → messagesIn f ≡ messagesIn g
     unfolding messagesIn
-    same-messages g e = rw (e ∙ noted-so g, no-message) (append-nil (messagesIn g))
+    same-messages g e = rw (e, no-message) (append-nil (messagesIn g))
 
     -- the content was read, and the end tag after it
     pub record Inside (inside : ℕ) : Type 0 where
@@ -134,7 +139,7 @@ module _ (depth : ℕ) (s : List ℕ) (role j at : ℕ) (d : List ℕ) (ready : 
       pub forest : Forest
       pub was : contentAt (depth - 1) s role inside ≡ read end forest
       pub closes : endAt s j end ≡ To n
-      pub messages : messagesIn f ≡ messagesIn forest
+      pub is : f ≡ tree role j forest none
 
     pub inside-read : (e inside : ℕ) → startAt s j ≡ Open e inside → Inside inside
     inside-read e inside tag =
@@ -143,34 +148,41 @@ module _ (depth : ℕ) (s : List ℕ) (role j at : ℕ) (d : List ℕ) (ready : 
         let c = reached (endAt s j (a .mid)) (λ n. read n (whole role j (a .part))) n f (a .then) in
         let place : c .mid ≡ n = cc in
         let is : whole role j (a .part) ≡ f = cc in
-        record { end = a .mid; forest = a .part; was = a .first; closes = c .first ∙ ap To place; messages = same-messages (a .part) (sym is) }
+        record { end = a .mid; forest = a .part; was = a .first; closes = c .first ∙ ap To place; is = sym is ∙ noted-so (a .part) }
 
-    pub inside-ready : (e inside : ℕ) → startAt s j ≡ Open e inside → Ready (contentAt (depth - 1) s role inside) at d
+    pub inside-ready : (e inside : ℕ) → startAt s j ≡ Open e inside → Ready (contentAt (depth - 1) s role inside) at d before
     inside-ready e inside tag =
         let i = inside-read e inside tag in
-        record { end = i .end; forest = i .forest; was = i .was; room = rw (← (i .messages)) (ready .room) }
+        record { end = i .end; forest = i .forest; was = i .was; room = rw (← (same-messages (i .forest) (i .is))) (ready .room); sized = ready .sized }
 
-    pub group-filled : (e inside : ℕ) → startAt s j ≡ Open e inside → (put given : Put) (after : List ℕ) → Filled s (contentAt (depth - 1) s role inside) at d after put
-        → given .next ≡ reachedPlace (endAt s j (put .next)) → given .at ≡ put .at → Filled s (elementAt depth s role j) at d after given
-    group-filled e inside tag put given after filled next place =
+    pub group-put : (e inside : ℕ) → startAt s j ≡ Open e inside → (put given : Put) (after notes : List ℕ) → length notes ≡ length before
+        → Put-so (contentAt (depth - 1) s role inside) after notes put → given .next ≡ reachedPlace (endAt s j (put .next)) → given .at ≡ put .at
+        → Put-so (elementAt depth s role j) after (set notes role j) given
+    group-put e inside tag put given after notes sized filled next place =
         let i = inside-read e inside tag in
-        let inner : Filled s (read (i .end) (i .forest)) at d after put = rw (i .was) at filled in
-        let told : Filled s (read n f) at d after given = (
-          next ∙ ap (λ (k : ℕ). reachedPlace (endAt s j k)) (inner .0) ∙ ap reachedPlace (i .closes),
-          place ∙ inner .1 ∙ (rw (i .messages)),
-          inner .2 ∙ (rw (i .messages)),
-        ) in
-        rw (ready .was) told
+        let same = same-messages (i .forest) (i .is) in
+        let inner : Put-so (read (i .end) (i .forest)) after notes put = rw (i .was) at filled in
+        put-so after (set notes role j) given (
+          (
+            next ∙ ap (λ (k : ℕ). reachedPlace (endAt s j k)) (inner .0 .0) ∙ ap reachedPlace (i .closes),
+            place ∙ inner .0 .1 ∙ (rw same),
+            inner .0 .2 ∙ (rw same),
+          ),
+          rw (i .is) (carried-group role j (i .forest) before notes (has-note notes sized) (inner .1)),
+        )
 
-    pub bare-filled : (e next : ℕ) → startAt s j ≡ Empty e next → (given : Put) → given .next ≡ next → given .at ≡ at → Filled s (elementAt depth s role j) at d d given
+    pub bare-put : (e next : ℕ) → startAt s j ≡ Empty e next → (given : Put) → given .next ≡ next → given .at ≡ at → Put-so (elementAt depth s role j) d (set before role j) given
     unfolding messagesIn
-    bare-filled e next tag given place same =
+    bare-put e next tag given place same =
         let told : read next (whole role j none) ≡ read n f = rw tag at (sym group ∙ ready .was) in
         let here : next ≡ n = cc in
         let is : whole role j none ≡ f = cc in
-        let hush : messagesIn f ≡ [] = same-messages none (sym is) in
-        let all : Filled s (read n f) at d d given = (place ∙ here, same ∙ none-more hush, rw hush) in
-        rw (ready .was) all
+        let bare : f ≡ tree role j none none = sym is ∙ noted-so none in
+        let hush : messagesIn f ≡ [] = same-messages none bare in
+        put-so d (set before role j) given (
+          (place ∙ here, same ∙ none-more hush, rw hush),
+          rw bare (carried-group role j none before before (has-note before refl) (carried-none before)),
+        )
 
-    pub faulty-filled : (p : ℕ) → startAt s j ≡ Faulty p → (given : Put) → Filled s (elementAt depth s role j) at d d given
-    faulty-filled p tag given = rw (group, tag) tt
+    pub faulty-put : (p : ℕ) → startAt s j ≡ Faulty p → (given : Put) → Put-so (elementAt depth s role j) d before given
+    faulty-put p tag given = rw (group, tag) (tt, tt)

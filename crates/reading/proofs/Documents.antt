@@ -1,71 +1,71 @@
--- The second reading of a document, and of all of them. Assumes nothing.
+-- The second reading of a document: its messages, its header, and how many messages there are. Assumes nothing.
 use mathlib.Core.Path.{_≡_, refl, sym, ap, _∙_}
-use mathlib.Core.Bool.{Bool, true, false, cond}
-use mathlib.Core.List.{List, [], _∷_, _++_, map, append-assoc, append-nil}
-use Prim.Native.Nat.{ℕ, zero, suc, _+_, _*_, _≤_, _<_, min}
+use mathlib.Core.List.{List}
+use Prim.Native.Nat.{ℕ, zero, suc, _+_, _-_, _*_, _/_, _≤_, _<_}
 use native.Mathlib.Omega.{arith}
-use lib.ListN.{length, getD, replicate, length-append}
-use lib.Seq.{sets, length-sets}
+use lib.ListN.{length, getD, replicate}
+use lib.Seq.{sets}
 use Rattle.wire.specs.Field.{bytesOf}
-use Rattle.wire.specs.Written.{joined}
 use Rattle.wire.proofs.Numbers.{bytes-length}
 use Rattle.wire.proofs.Stores.{sets-then, sets-swap}
-use Rattle.letters.specs.Places.{byteAt}
-use Rattle.tags.specs.Names.{spaceEnd}
-use Rattle.sheet.specs.Sheet.{Bulk}
 use Rattle.paths.specs.Roles as roles
 use Rattle.records.specs.Records.{headerOf}
-use Rattle.records.proofs.Laws.{header-length, header-alike}
-use Rattle.elements.specs.Forest.{Forest, none, tree, beside}
-use Rattle.elements.specs.Grammar.{Parsed, read, broken, deep, onRead}
-use Rattle.elements.specs.Notes.{tooMany, notesOf, noted}
+use Rattle.records.proofs.Laws.{header-length}
+use Rattle.elements.specs.Forest.{Forest}
+use Rattle.elements.specs.Grammar.{Parsed, read}
 use Rattle.elements.specs.Questions.{placeIn, messagesIn}
-use Rattle.elements.proofs.Forests.{beside-none, beside-beside}
-use Rattle.elements.proofs.Forward.{Went, went}
-use Rattle.elements.proofs.Noting.{noted-place, noted-messages}
-use Rattle.reading.specs.Text.{documentAt, rootsAt}
-use Rattle.reading.specs.Meaning.{placesIn, bulkIn, bulksIn, sheetIn, allCountable}
-use Rattle.reading.specs.Filling.{messagesBytes, section, Ready, Filled, Placed, PutWhole}
-use Rattle.reading.specs.Survey.{needed}
+use Rattle.reading.specs.Meaning.{placesIn, bulkIn}
+use Rattle.reading.specs.Filling.{messagesBytes, section, Ready, Filled, HeaderNoted, Placed, PutWhole}
 use Rattle.reading.specs.declared.Put.{Put}
-use Rattle.reading.proofs.Roots.{document-onward, roots-end, roots-odd, roots-document}
-use Rattle.reading.proofs.Surveys.{Root, root-told, bulks-beside, countable-beside, needed-beside}
-use Rattle.reading.proofs.Sheets.{headers, sections, map-length, section-length, headers-length, parts-length}
-
--- ---- one document
+use Rattle.reading.proofs.Carrying.{header-alike}
+use Rattle.reading.proofs.Sheets.{map-length}
 
 zeros : (n k : ℕ) → getD {A = ℕ} (replicate n 0) k 0 ≡ 0
 zeros zero k = refl
 zeros (suc n) zero = refl
 zeros (suc n) (suc k) = zeros n k
 
-pub ready-on : (p : Parsed) (at : ℕ) (d e : List ℕ) → Ready p at d → length e ≡ length d → Ready p at e
-ready-on p at d e ready same = record { end = ready .end; forest = ready .forest; was = ready .was; room = rw same (ready .room) }
-
-module _ (s : List ℕ) (p : Parsed) (i h m : ℕ) (d : List ℕ) (placed : Placed s p i m d) (notes : List ℕ) (noted-so : notes ≡ notesOf p (replicate 36 0)) where
+module _ (s : List ℕ) (p : Parsed) (i h m : ℕ) (d : List ℕ) (placed : Placed s p i h m d) where
   abbrev f : Forest
-  f = placed .ready .forest
+  f = placed .forest
 
-  notes-are : notes ≡ noted f (replicate 36 0)
-  notes-are = noted-so ∙ ap (λ (q : Parsed). notesOf q (replicate 36 0)) (placed .ready .was)
+  abbrev blank : List ℕ
+  blank = replicate 36 0
 
-  alike : (k : ℕ) → 0 < k → k < roles.roles → getD notes k 0 ≡ placesIn f k
-  alike k some low = rw notes-are (noted-place k some low f (replicate 36 0) refl ∙ ap (placeIn k f) (zeros 36 k))
+  pub document-ready : Ready p (m + 4) d blank
+  document-ready = record { end = placed .end; forest = f; was = placed .was; room = placed .room; sized = refl }
 
-  counted : getD notes 35 0 ≡ length (bulkIn s f .messages)
-  counted =
-      let all = noted-messages f (replicate 36 0) refl (omega (arith, zeros 36 35)) in
-      let told : getD notes 35 0 ≡ min (getD {A = ℕ} (replicate 36 0) 35 0 + length (messagesIn f)) tooMany = (rw notes-are) ∙ all in
-      told ∙ (let none-yet = zeros 36 35 in let few = placed .few in let same = map-length s (messagesIn f) in omega arith)
+  module _ (d1 notes : List ℕ) (put : Put) (filled : Filled s p (m + 4) d d1 put) (carried : HeaderNoted p blank notes) where
+    inner : Filled s (read (placed .end) f) (m + 4) d d1 put
+    inner = rw (placed .was) at filled
 
-  pub document-put : (d1 d2 d3 : List ℕ) (put : Put) → d1 ≡ sets d h (headerOf s (λ k. getD notes k 0)) → d2 ≡ sets d1 m (bytesOf 4 (getD notes 35 0)) → Filled s p (m + 4) d2 d3 put
-      → PutWhole s p h m d d3 put
-  document-put d1 d2 d3 put first second filled =
-      let inner : Filled s (read (placed .ready .end) f) (m + 4) d2 d3 put = rw (placed .ready .was) at filled in
-      let told : PutWhole s (read (placed .ready .end) f) h m d d3 put = (
-        inner .0,
-        inner .1,
-        inner .2 ∙ (rw second) ∙ sets-then d1 m 4 (bytesOf 4 (getD notes 35 0)) (messagesBytes s f) (bytes-length 4 (getD notes 35 0))
-            ∙ (rw (counted, first, header-alike s (λ k. getD notes k 0) (placesIn f) alike)),
-      ) in
-      rw (placed .ready .was) told
+    headed : headerOf s (λ k. getD notes k 0) ≡ headerOf s (placesIn f)
+    headed =
+        let told : HeaderNoted (read (placed .end) f) blank notes = rw (placed .was) at carried in
+        header-alike s (λ k. getD notes k 0) (placesIn f) (λ k some low. told k some low ∙ ap (placeIn k f) (zeros 36 k))
+
+    pub messages-end : put .at ≡ m + 4 + 81 * length (messagesIn f)
+    messages-end = inner .1
+
+    -- a message takes 81 bytes
+    abbrev count : ℕ
+    count = (put .at - (m + 4)) / 81
+
+    counted : count ≡ length (bulkIn s f .messages)
+    counted = let end = messages-end in let same = map-length s (messagesIn f) in omega arith
+
+    pub document-put : (d2 d3 : List ℕ) → d2 ≡ sets d1 h (headerOf s (λ k. getD notes k 0)) → d3 ≡ sets d2 m (bytesOf 4 count) → PutWhole s p h m d d3 put
+    document-put d2 d3 second third =
+        let head = headerOf s (placesIn f) in
+        let long = header-length s (placesIn f) in
+        let wide = bytes-length 4 count in
+        let told : PutWhole s (read (placed .end) f) h m d d3 put = (
+          inner .0,
+          inner .1,
+          third ∙ (rw (second, headed, inner .2))
+              ∙ ap (λ (x : List ℕ). sets x m (bytesOf 4 count)) (sym (sets-swap d h head (m + 4) (messagesBytes s f) (omega (arith, placed .apart))))
+              ∙ sym (sets-swap (sets d h head) m (bytesOf 4 count) (m + 4) (messagesBytes s f) (omega arith))
+              ∙ sets-then (sets d h head) m 4 (bytesOf 4 count) (messagesBytes s f) wide
+              ∙ (rw counted),
+        ) in
+        rw (placed .was) told

@@ -22,7 +22,7 @@ use Rattle.elements.specs.Forest.{Forest, none, tree, beside}
 use Rattle.elements.specs.Grammar.{Parsed, read, broken, deep, onRead}
 use Rattle.elements.specs.Notes.{tooMany}
 use Rattle.elements.specs.Questions.{messagesIn}
-use Rattle.elements.proofs.Forests.{beside-none, beside-beside}
+use Rattle.elements.proofs.Forests.{beside-none}
 use Rattle.elements.proofs.Forward.{Went, went}
 use Rattle.reading.specs.Text.{documentAt, rootsAt}
 use Rattle.reading.specs.Meaning.{placesIn, bulkIn, bulksIn, sheetIn, countable, allCountable}
@@ -31,6 +31,7 @@ use Rattle.reading.specs.Survey.{needed}
 use Rattle.reading.specs.declared.Put.{Put}
 use Rattle.reading.proofs.Roots.{roots-end, roots-odd, roots-document}
 use Rattle.reading.proofs.Surveys.{Root, root-told, bulks-beside, countable-beside}
+use Rattle.reading.proofs.Sofar.{behind, nothing-yet, further}
 use Rattle.reading.proofs.Sheets.{headers, sections, both, section-length, headers-length, parts-length, sheet-length}
 
 -- ---- bulks one after the other
@@ -48,31 +49,16 @@ one-bulk : (s : List ℕ) (at : ℕ) (f : Forest) → Root s at f → bulksIn s 
 unfolding bulksIn
 one-bulk s at f root = rw (root .is)
 
-own-countable : (role place : ℕ) (inner : Forest) → allCountable (tree role place inner none) ≡ (countable (length (messagesIn (tree role place inner none))) && true)
-unfolding allCountable
-own-countable role place inner = refl
-
-one-few : (s : List ℕ) (at : ℕ) (f : Forest) → Root s at f → allCountable f ≡ true → length (messagesIn f) < tooMany
-one-few s at f root e =
-    let own : allCountable f ≡ (countable (length (messagesIn f)) && true) = rw (root .is) (own-countable (rootRole (nameAt s (at + 1))) (root .place) (root .inner)) in
-    ltb-true (length (messagesIn f)) tooMany (both (countable (length (messagesIn f))) true (sym own ∙ e) .0)
-
 -- ---- the loop
 
 pub record Writing (s : List ℕ) (first bulks i h m : ℕ) (base d : List ℕ) : Type 0 where
   pub sofar : Forest
-  pub comes : rootsAt s first ≡ onRead (rootsAt s i) (λ e g. read e (beside sofar g))
+  pub comes : rootsAt s first ≡ behind sofar (rootsAt s i)
   pub heads : h ≡ 4 + 65 * length (bulksIn s sofar)
   pub bodies : m ≡ 4 + 65 * bulks + length (sections (bulksIn s sofar))
   pub wrote : d ≡ sets (sets base 4 (headers (bulksIn s sofar))) (4 + 65 * bulks) (sections (bulksIn s sofar))
 
 module _ (s : List ℕ) (first bulks : ℕ) (base : List ℕ) where
-  nothing-yet : (r : Parsed) → r ≡ onRead r (λ e g. read e (beside none g))
-  unfolding beside
-  nothing-yet (read e g) = refl
-  nothing-yet (broken p) = refl
-  nothing-yet (deep p) = refl
-
   pub writing-starts : Writing s first bulks first 4 (4 + 65 * bulks) base base
   unfolding bulksIn
   writing-starts = record { sofar = none; comes = nothing-yet (rootsAt s first); heads = omega arith; bodies = omega arith; wrote = refl }
@@ -83,11 +69,6 @@ module _ (s : List ℕ) (first bulks : ℕ) (base : List ℕ) where
 
     long : length d ≡ length base
     long = ap length (now .wrote) ∙ length-sets (sets base 4 (headers (bulksIn s sofar))) (4 + 65 * bulks) (sections (bulksIn s sofar)) ∙ length-sets base 4 (headers (bulksIn s sofar))
-
-    further : (f : Forest) (r : Parsed) → onRead (onRead r (λ e g. read e (beside f g))) (λ e g. read e (beside sofar g)) ≡ onRead r (λ e g. read e (beside (beside sofar f) g))
-    further f (read e g) = ap (λ (h : Forest). read e h) (sym (beside-beside sofar f g))
-    further f (broken p) = refl
-    further f (deep p) = refl
 
     -- the next document was read by the first reading, and what is left after it
     pub record Next : Type 0 where
@@ -133,12 +114,6 @@ module _ (s : List ℕ) (first bulks : ℕ) (base : List ℕ) where
           ap (bulksIn s) (next .all) ∙ bulks-beside s sofar (beside (next .forest) (next .rest))
           ∙ ap (λ (bs : List Bulk). bulksIn s sofar ++ bs) (bulks-beside s (next .forest) (next .rest) ∙ ap (λ (bs : List Bulk). bs ++ bulksIn s (next .rest)) (one-bulk s i (next .forest) root))
 
-      few : length (messagesIn (next .forest)) < tooMany
-      few =
-          let whole : (allCountable sofar && allCountable (beside (next .forest) (next .rest))) ≡ true = sym (ap allCountable (next .all) ∙ countable-beside sofar (beside (next .forest) (next .rest))) ∙ fitting .few in
-          let behind = both (allCountable sofar) (allCountable (beside (next .forest) (next .rest))) whole .1 in
-          one-few s i (next .forest) root (both (allCountable (next .forest)) (allCountable (next .rest)) (sym (countable-beside (next .forest) (next .rest)) ∙ behind) .0)
-
       -- one header more has its place, and the section its room
       pub head-room : length (bulksIn s sofar) + 1 ≤ bulks
       head-room =
@@ -154,8 +129,8 @@ module _ (s : List ℕ) (first bulks : ℕ) (base : List ℕ) where
           let its = section-length s (next .forest) in
           omega (arith, fitting .room, fitting .number, now .bodies, long)
 
-      pub document-placed : i < length s → Placed s (documentAt s i) i m d
-      document-placed low = record { inside = low; ready = record { end = next .end; forest = next .forest; was = next .was; room = body-room }; few = few }
+      pub document-placed : i < length s → Placed s (documentAt s i) i h m d
+      document-placed low = record { inside = low; end = next .end; forest = next .forest; was = next .was; apart = omega (arith, now .heads, now .bodies, head-room); room = body-room }
 
       bulks-on : bulksIn s (beside sofar (next .forest)) ≡ bulksIn s sofar ++ (own ∷ [])
       bulks-on = bulks-beside s sofar (next .forest) ∙ ap (λ (bs : List Bulk). bulksIn s sofar ++ bs) (one-bulk s i (next .forest) root)
@@ -192,8 +167,8 @@ module _ (s : List ℕ) (first bulks : ℕ) (base : List ℕ) where
             sofar = beside sofar (next .forest);
             comes =
                 now .comes ∙ (rw (roots-document s i (read (next .end) (next .forest)) low (next .here) (next .was)))
-                ∙ further (next .forest) (rootsAt s (spaceEnd s (next .end)))
-                ∙ ap (λ (k : ℕ). onRead (rootsAt s (spaceEnd s k)) (λ e g. read e (beside (beside sofar (next .forest)) g))) (sym (wrote .0));
+                ∙ further sofar (next .forest) (rootsAt s (spaceEnd s (next .end)))
+                ∙ ap (λ (k : ℕ). behind (beside sofar (next .forest)) (rootsAt s (spaceEnd s k))) (sym (wrote .0));
             heads = let many = ap length bulks-on ∙ length-append (bulksIn s sofar) (own ∷ []) in omega (arith, now .heads);
             bodies =
                 wrote .1 ∙ (let cut = ap length sections-on ∙ length-append (sections (bulksIn s sofar)) (section own) in

@@ -1,7 +1,9 @@
 pub mod Looks
 pub mod Roots
+pub mod Sofar
 pub mod Surveys
 pub mod Sheets
+pub mod Carrying
 pub mod Gathers
 pub mod Children
 pub mod Documents

@@ -14,16 +14,16 @@ use Rattle.paths.specs.Roles as roles
 use Rattle.paths.specs.Table.{rootRole, lacks}
 use Rattle.elements.specs.Forest.{Forest, none, tree, beside, countOf}
 use Rattle.elements.specs.Grammar.{Parsed, read, broken, deep, onRead}
-use Rattle.elements.specs.Notes.{tooMany, oneMore}
+use Rattle.elements.specs.Notes.{tooMany}
 use Rattle.elements.specs.Questions.{firstLack, messagesIn}
-use Rattle.elements.proofs.Forests.{beside-none, beside-beside}
+use Rattle.elements.proofs.Forests.{beside-none}
 use Rattle.elements.proofs.Forward.{Shape, stepped, one, element-told}
-use Rattle.elements.proofs.Noting.{one-more}
 use Rattle.reading.specs.Text.{levels, documentAt, rootsAt}
 use Rattle.reading.specs.Meaning.{bulkIn, bulksIn, countable, allCountable, fitsIn}
 use Rattle.reading.specs.Survey.{messageCount, Looked, cost, needed, enough, takenOf, concluded, surveyOf}
 use Rattle.reading.specs.declared.Seen.{Seen}
 use Rattle.reading.specs.declared.Room.{Room}
+use Rattle.reading.proofs.Sofar.{behind, nothing-yet, further}
 use Rattle.reading.proofs.Roots.{document-onward, roots-end, roots-odd, roots-document}
 
 -- ---- two forests one after the other
@@ -133,23 +133,18 @@ module _ (sofar f inner : Forest) (role place : ℕ) (is : f ≡ tree role place
 
 pub record Surveying (s : List ℕ) (space first i lack bulks : ℕ) (room : Room) : Type 0 where
   pub sofar : Forest
-  pub comes : rootsAt s first ≡ onRead (rootsAt s i) (λ e g. read e (beside sofar g))
+  pub comes : rootsAt s first ≡ behind sofar (rootsAt s i)
   pub lack-is : lack ≡ firstLack sofar (length s)
-  pub bulks-are : bulks ≡ min (length (bulksIn s sofar)) tooMany
+  pub bulks-are : bulks ≡ length (bulksIn s sofar)
+  pub bulks-low : bulks ≤ i
   pub left-is : room .left ≡ space - (4 + needed sofar)
   pub short-is : room .short ≡ not (enough space sofar)
 
 module _ (s : List ℕ) (space first : ℕ) where
-  nothing-yet : (r : Parsed) → r ≡ onRead r (λ e g. read e (beside none g))
-  unfolding beside
-  nothing-yet (read e g) = refl
-  nothing-yet (broken p) = refl
-  nothing-yet (deep p) = refl
-
   pub survey-starts : (room : Room) → room .left ≡ space - 4 → room .short ≡ ltb space 4 → Surveying s space first first (length s) 0 room
   unfolding firstLack needed allCountable bulksIn
   survey-starts room left short =
-      record { sofar = none; comes = nothing-yet (rootsAt s first); lack-is = refl; bulks-are = omega arith; left-is = left ∙ (omega arith); short-is = short ∙ by-test (leb 4 space) refl }
+      record { sofar = none; comes = nothing-yet (rootsAt s first); lack-is = refl; bulks-are = refl; bulks-low = omega arith; left-is = left ∙ (omega arith); short-is = short ∙ by-test (leb 4 space) refl }
     where
       by-test : (t : Bool) → leb 4 space ≡ t → ltb space 4 ≡ not t
       by-test true e = le-ltb space 4 (leb-true 4 space e)
@@ -160,21 +155,16 @@ module _ (s : List ℕ) (space first : ℕ) where
     survey-odd h odd = surveying .comes ∙ (rw (roots-odd s i h odd))
 
     pub survey-stops : (r : Parsed) → i < length s → byteAt s i ≡ 60 → documentAt s i ≡ r
-        → rootsAt s first ≡ onRead (onRead r (λ next f. onRead (rootsAt s (spaceEnd s next)) (λ e g. read e (beside f g)))) (λ e g. read e (beside (surveying .sofar) g))
+        → rootsAt s first ≡ behind (surveying .sofar) (onRead r (λ next f. behind f (rootsAt s (spaceEnd s next))))
     survey-stops r h here e = surveying .comes ∙ (rw (roots-document s i r h here e))
 
     pub survey-ends : length s ≤ i → rootsAt s first ≡ read i (surveying .sofar)
     survey-ends h = surveying .comes ∙ (rw (roots-end s i h, beside-none (surveying .sofar)))
 
-    further : (sofar f : Forest) (r : Parsed) → onRead (onRead r (λ e g. read e (beside f g))) (λ e g. read e (beside sofar g)) ≡ onRead r (λ e g. read e (beside (beside sofar f) g))
-    further sofar f (read e g) = ap (λ (h : Forest). read e h) (sym (beside-beside sofar f g))
-    further sofar f (broken p) = refl
-    further sofar f (deep p) = refl
-
-    pub survey-on : (next : ℕ) (f : Forest) (seen : Seen) (fuller : ℕ) → i < length s → byteAt s i ≡ 60 → documentAt s i ≡ read next f
-        → Looked (read next f) lack seen → fuller ≡ oneMore bulks → Surveying s space first (spaceEnd s next) (seen .lack) fuller (takenOf room (seen .messages))
+    pub survey-on : (next : ℕ) (f : Forest) (seen : Seen) → i < length s → byteAt s i ≡ 60 → documentAt s i ≡ read next f
+        → Looked (read next f) lack seen → Surveying s space first (spaceEnd s next) (seen .lack) (bulks + 1) (takenOf room (seen .messages))
     unfolding bulksIn
-    survey-on next f seen fuller h here e told more =
+    survey-on next f seen h here e told =
         let root = root-told s i next f e in
         let sofar = surveying .sofar in
         let messages : seen .messages ≡ messageCount f = told .1 in
@@ -184,12 +174,13 @@ module _ (s : List ℕ) (space first : ℕ) where
           sofar = beside sofar f;
           comes = survey-stops (read next f) h here e ∙ further sofar f (rootsAt s (spaceEnd s next));
           lack-is = told .0 ∙ ap (firstLack f) (surveying .lack-is) ∙ sym (lack-beside sofar f (length s));
-          bulks-are = more ∙ one-more bulks (omega (arith, surveying .bulks-are)) ∙ counted (root .place) (root .inner) (root .is);
+          bulks-are = counted (root .place) (root .inner) (root .is);
+          bulks-low = let on = document-onward s i next f e in omega (arith, surveying .bulks-low);
           left-is = rw messages (omega (arith, surveying .left-is));
           short-is = rw messages (short-more sofar f (root .inner) role (root .place) (root .is) space room (surveying .left-is) (surveying .short-is));
         }
       where
-        counted : (place : ℕ) (inner : Forest) → f ≡ tree (rootRole (nameAt s (i + 1))) place inner none → min (bulks + 1) tooMany ≡ min (length (bulksIn s (beside (surveying .sofar) f))) tooMany
+        counted : (place : ℕ) (inner : Forest) → f ≡ tree (rootRole (nameAt s (i + 1))) place inner none → bulks + 1 ≡ length (bulksIn s (beside (surveying .sofar) f))
         counted place inner is =
             let many : length (bulksIn s (beside (surveying .sofar) f)) ≡ length (bulksIn s (surveying .sofar)) + 1 =
             ap length (bulks-beside s (surveying .sofar) f) ∙ length-append (bulksIn s (surveying .sofar)) (bulksIn s f) ∙ (rw is) in

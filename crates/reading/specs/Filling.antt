@@ -3,12 +3,12 @@ use Prim.Native.Nat.{ℕ, _+_, _*_, _≤_, _<_}
 use mathlib.Core.Path.{_≡_}
 use mathlib.Core.Bool.{Bool, true, _||_}
 use mathlib.Core.List.{List, _++_, map}
-use lib.ListN.{length}
+use lib.ListN.{length, getD, replicate}
 use lib.Seq.{sets}
 use lib.Dec.{eqb}
 use Rattle.wire.specs.Field.{bytesOf}
 use Rattle.wire.specs.Written.{joined}
-use Rattle.sheet.specs.Sheet.{countWidth, Bulk}
+use Rattle.sheet.specs.Sheet.{countWidth, headerWidth, Bulk}
 use Rattle.letters.specs.declared.Reach.{Reach}
 use Rattle.letters.specs.declared.Reach.the-variants.{To, Broken}
 use Rattle.paths.specs.Roles as roles
@@ -17,11 +17,30 @@ use Rattle.elements.specs.declared.Step.{Step}
 use Rattle.elements.specs.declared.Step.the-variants.{Done, Form, Deep}
 use Rattle.elements.specs.Forest.{Forest}
 use Rattle.elements.specs.Grammar.{Parsed, read, broken, deep}
-use Rattle.elements.specs.Notes.{tooMany}
-use Rattle.elements.specs.Questions.{messagesIn}
+use Rattle.elements.specs.Questions.{placeIn, messagesIn}
 use Rattle.reading.specs.Meaning.{placesIn, bulkIn, bulksIn, sheetIn, allCountable}
 use Rattle.reading.specs.Survey.{needed}
 use Rattle.reading.specs.declared.Put.{Put}
+
+-- ---- notes
+
+abbrev pub noteCount : ℕ
+noteCount = 36
+
+-- the fields of a message are the last six roles: they are forgotten before the next message is read
+abbrev pub forgotten : List ℕ → List ℕ
+forgotten notes = sets notes roles.identifier (replicate 6 0)
+
+-- all other roles are noted from what was read
+abbrev pub Carried : Forest → List ℕ → List ℕ → Type 0
+Carried f before after = (k : ℕ) → 0 < k → k < roles.identifier → getD after k 0 ≡ placeIn k f (getD before k 0)
+
+abbrev pub HeaderNoted : Parsed → List ℕ → List ℕ → Type 0
+HeaderNoted (read n f) before after = Carried f before after
+HeaderNoted (broken p) before after = Unit {0}
+HeaderNoted (deep p) before after = Unit {0}
+
+-- ---- an element or a content
 
 abbrev pub messageBytes : List ℕ → Forest → List ℕ
 messageBytes s m = messageOf s (placesIn m)
@@ -29,12 +48,13 @@ messageBytes s m = messageOf s (placesIn m)
 abbrev pub messagesBytes : List ℕ → Forest → List ℕ
 messagesBytes s f = joined (map (λ (m : Forest). messageBytes s m) (messagesIn f))
 
--- something that can be read, with room for its messages from a place on
-pub record Ready (p : Parsed) (at : ℕ) (d : List ℕ) : Type 0 where
+-- something that can be read, with room for its messages from a place on; and all notes are there
+pub record Ready (p : Parsed) (at : ℕ) (d notes : List ℕ) : Type 0 where
   pub end : ℕ
   pub forest : Forest
   pub was : p ≡ read end forest
   pub room : at + 81 * length (messagesIn forest) ≤ length d
+  pub sized : length notes ≡ noteCount
 
 -- where it ended, the place after the messages, and they are written
 abbrev pub Filled : List ℕ → Parsed → ℕ → List ℕ → List ℕ → Put → Type 0
@@ -64,11 +84,14 @@ busy role = eqb role roles.document || eqb role roles.payments || eqb role roles
 abbrev pub section : Bulk → List ℕ
 section b = bytesOf countWidth (length (b .messages)) ++ joined (b .messages)
 
--- it stands in the text, was read, its messages can be counted, and have room
-pub record Placed (s : List ℕ) (p : Parsed) (i m : ℕ) (d : List ℕ) : Type 0 where
+-- it stands in the text, was read, and has room for its messages behind its header
+pub record Placed (s : List ℕ) (p : Parsed) (i h m : ℕ) (d : List ℕ) : Type 0 where
   pub inside : i < length s
-  pub ready : Ready p (m + 4) d
-  pub few : length (messagesIn (ready .forest)) < tooMany
+  pub end : ℕ
+  pub forest : Forest
+  pub was : p ≡ read end forest
+  pub apart : h + headerWidth ≤ m
+  pub room : m + 4 + 81 * length (messagesIn forest) ≤ length d
 
 -- its header is written at one place, its section at another
 abbrev pub PutWhole : List ℕ → Parsed → ℕ → ℕ → List ℕ → List ℕ → Put → Type 0

@@ -2,18 +2,18 @@
 ghost use mathlib.Core.Path.{_≡_};
 ghost use Prim.Native.Nat.{_<_, _≤_};
 ghost use mathlib.Core.Bool.{cond, not, _||_};
-ghost use lib.ListN.{length, getD, replicate};
+ghost use lib.ListN.{length, getD};
 ghost use lib.Seq.{sets};
 ghost use lib.Dec.{ltb};
 ghost use Rattle.tags.specs.Tags.{endAt};
 ghost use Rattle.records.specs.Records.{messageOf};
 ghost use Rattle.elements.specs.Grammar.{elementAt, contentAt};
-ghost use Rattle.elements.specs.Notes.{tooMany, oneMore, stepOf, notesOf};
+ghost use Rattle.elements.specs.Notes.{tooMany, stepOf, notesOf};
 ghost use Rattle.reading.specs.Text.{documentAt, rootsAt, someRoots};
 ghost use Rattle.reading.specs.Meaning.{countable};
 ghost use Rattle.reading.specs.Survey.{Looked, takenOf, surveyOf};
 ghost use Rattle.reading.specs.declared.Survey.the-variants.{Fine, Lack, Short};
-ghost use Rattle.reading.specs.Filling.{Ready, Filled, Placed, PutWhole, Fitting, PutSheet, placeOf, reachedPlace, busy};
+ghost use Rattle.reading.specs.Filling.{noteCount, forgotten, Ready, Filled, HeaderNoted, Placed, PutWhole, Fitting, PutSheet, placeOf, reachedPlace, busy};
 ghost use Rattle.reading.specs.Reading.{outcome, outcomeOf, reads, numberOf, lengthOf, whereOf};
 use elements::Step;
 use letters::Reach;
@@ -95,12 +95,6 @@ fn conclude(lack: usize, end: usize, short: bool, bulks: usize) -> Survey
     Survey::Fine(bulks)
 }
 
-fn one_more(n: usize) -> usize
-    ensures { λ r. ⌜ r ≡ oneMore n ⌝ }
-{
-    if n < 4294967296 { n + 1 } else { n }
-}
-
 // Reads all documents from the first on, and writes nothing.
 fn first_reading(s: &[u8], first: usize, space: usize) -> Survey
     ensures { λ r. ⌜ r ≡ surveyOf (now (s .entry)) space (rootsAt (now (s .entry)) first) ⌝ }
@@ -122,7 +116,7 @@ fn first_reading(s: &[u8], first: usize, space: usize) -> Survey
             Step::Done(n) => {
                 lack = seen.lack;
                 room = taken(room, seen.messages);
-                bulks = one_more(bulks);
+                bulks += 1;
                 i = tags::space_end(s, n);
             }
             Step::Form(p) => {
@@ -155,23 +149,45 @@ fn place_of(step: Step) -> usize
 }
 
 // The place after an element in which there is no message.
-fn after(s: &[u8], j: usize, depth: usize, role: usize) -> usize
-    ensures { λ r. ⌜ r ≡ placeOf (stepOf (elementAt depth (now (s .entry)) role j)) ⌝ }
+fn after(s: &[u8], j: usize, depth: usize, role: usize, notes: &mut [usize]) -> usize
+    ensures next { λ r. ⌜ r ≡ placeOf (stepOf (elementAt depth (now (s .entry)) role j)) ⌝ }
+    ensures notes { λ _. ⌜ now (notes .exit) ≡ notesOf (elementAt depth (now (s .entry)) role j) (now (notes .entry)) ⌝ }
 {
-    let mut notes = [0usize; 36];
-    let step = elements::read_element(s, j, depth, role, &mut notes);
-    place_of(step)
+    place_of(elements::read_element(s, j, depth, role, notes))
+}
+
+// Forgets the fields of a message, so that none of them shows in the next one.
+fn forget(notes: &mut [usize])
+    requires { ⌜ length (now notes) ≡ noteCount ⌝ }
+    ensures { λ _. ⌜ now (notes .exit) ≡ forgotten (now (notes .entry)) ⌝ }
+{
+    notes[paths::IDENTIFIER] = 0;
+    notes[paths::RECEIVER] = 0;
+    notes[paths::AMOUNT] = 0;
+    notes[paths::ORIGINAL_AMOUNT] = 0;
+    notes[paths::REASON] = 0;
+    notes[paths::ORIGINAL_NAME] = 0;
 }
 
 // Writes a message, and tells the place after it in the text.
-fn put_one(d: &mut [u8], at: usize, s: &[u8], j: usize, depth: usize, role: usize) -> usize
+fn put_one(
+    d: &mut [u8],
+    at: usize,
+    s: &[u8],
+    j: usize,
+    depth: usize,
+    role: usize,
+    notes: &mut [usize],
+) -> usize
+    requires { ⌜ length (now notes) ≡ noteCount ⌝ }
     ensures next { λ r. ⌜ r ≡ placeOf (stepOf (elementAt depth (now (s .entry)) role j)) ⌝ }
-    ensures written { λ _. ⌜ now (d .exit) ≡ sets (now (d .entry)) at (messageOf (now (s .entry)) (λ k. getD (notesOf (elementAt depth (now (s .entry)) role j) (replicate 36 0)) k 0)) ⌝ }
+    ensures notes { λ _. ⌜ now (notes .exit) ≡ notesOf (elementAt depth (now (s .entry)) role j) (forgotten (now (notes .entry))) ⌝ }
+    ensures written { λ _. ⌜ now (d .exit) ≡ sets (now (d .entry)) at (messageOf (now (s .entry)) (λ k. getD (now (notes .exit)) k 0)) ⌝ }
 {
-    let mut notes = [0usize; 36];
-    let step = elements::read_element(s, j, depth, role, &mut notes);
-    records::put_message(d, at, s, &notes);
-    place_of(step)
+    forget(notes);
+    let next = after(s, j, depth, role, notes);
+    records::put_message(d, at, s, notes);
+    next
 }
 
 // The place after an end tag.
@@ -191,38 +207,60 @@ fn holds(role: usize) -> bool
     (role == paths::DOCUMENT) | (role == paths::PAYMENTS) | (role == paths::RETURNS)
 }
 
-// Writes the messages of an element, however deep they stand.
-fn put_child(d: &mut [u8], at: usize, s: &[u8], j: usize, depth: usize, role: usize) -> Put
-    requires { ⌜ Ready (elementAt depth (now s) role j) at (now d) ⌝ }
-    ensures { λ r. ⌜ Filled (now (s .entry)) (elementAt depth (now (s .entry)) role j) at (now (d .entry)) (now (d .exit)) r ⌝ }
+// Writes the messages of an element, however deep they stand, and notes what the header needs.
+fn put_child(
+    d: &mut [u8],
+    at: usize,
+    s: &[u8],
+    j: usize,
+    depth: usize,
+    role: usize,
+    notes: &mut [usize],
+) -> Put
+    requires { ⌜ Ready (elementAt depth (now s) role j) at (now d) (now notes) ⌝ }
+    ensures written { λ r. ⌜ Filled (now (s .entry)) (elementAt depth (now (s .entry)) role j) at (now (d .entry)) (now (d .exit)) r ⌝ }
+    ensures notes { λ _. ⌜ HeaderNoted (elementAt depth (now (s .entry)) role j) (now (notes .entry)) (now (notes .exit)) ⌝ }
 {
     if paths::is_message(role) {
-        let next = put_one(d, at, s, j, depth, role);
+        let next = put_one(d, at, s, j, depth, role, notes);
         return Put { next, at: at + 81 };
     }
     if !holds(role) {
         return Put {
-            next: after(s, j, depth, role),
+            next: after(s, j, depth, role, notes),
             at,
         };
     }
     match tags::start(s, j) {
         Tag::Open(_, inside) => {
-            let put = gather(d, at, s, inside, depth - 1, role);
+            let put = gather(d, at, s, inside, depth - 1, role, notes);
+            notes[role] = j;
             Put {
                 next: closed(s, j, put.next),
                 at: put.at,
             }
         }
-        Tag::Empty(_, next) => Put { next, at },
+        Tag::Empty(_, next) => {
+            notes[role] = j;
+            Put { next, at }
+        }
         Tag::Faulty(p) => Put { next: p, at },
     }
 }
 
-// Writes the messages of a content.
-fn gather(d: &mut [u8], at: usize, s: &[u8], inside: usize, depth: usize, role: usize) -> Put
-    requires { ⌜ Ready (contentAt depth (now s) role inside) at (now d) ⌝ }
-    ensures { λ r. ⌜ Filled (now (s .entry)) (contentAt depth (now (s .entry)) role inside) at (now (d .entry)) (now (d .exit)) r ⌝ }
+// Writes the messages of a content, likewise.
+fn gather(
+    d: &mut [u8],
+    at: usize,
+    s: &[u8],
+    inside: usize,
+    depth: usize,
+    role: usize,
+    notes: &mut [usize],
+) -> Put
+    requires { ⌜ Ready (contentAt depth (now s) role inside) at (now d) (now notes) ⌝ }
+    ensures written { λ r. ⌜ Filled (now (s .entry)) (contentAt depth (now (s .entry)) role inside) at (now (d .entry)) (now (d .exit)) r ⌝ }
+    ensures notes { λ _. ⌜ HeaderNoted (contentAt depth (now (s .entry)) role inside) (now (notes .entry)) (now (notes .exit)) ⌝ }
 {
     let mut i = inside;
     let mut m = at;
@@ -236,7 +274,7 @@ fn gather(d: &mut [u8], at: usize, s: &[u8], inside: usize, depth: usize, role: 
                     return Put { next: j, at: m };
                 }
                 let child = paths::child_role(role, tags::name_at(s, j + 1));
-                let put = put_child(d, m, s, j, depth, child);
+                let put = put_child(d, m, s, j, depth, child, notes);
                 i = put.next;
                 m = put.at;
             }
@@ -246,15 +284,16 @@ fn gather(d: &mut [u8], at: usize, s: &[u8], inside: usize, depth: usize, role: 
 
 // Writes the header and the section of a document.
 fn put_document(d: &mut [u8], h: usize, m: usize, s: &[u8], i: usize) -> Put
-    requires { ⌜ Placed (now s) (documentAt (now s) i) i m (now d) ⌝ }
+    requires { ⌜ Placed (now s) (documentAt (now s) i) i h m (now d) ⌝ }
     ensures { λ r. ⌜ PutWhole (now (s .entry)) (documentAt (now (s .entry)) i) h m (now (d .entry)) (now (d .exit)) r ⌝ }
 {
     let role = paths::root_role(tags::name_at(s, i + 1));
     let mut notes = [0usize; 36];
-    let _step = elements::read_element(s, i, elements::LEVELS, role, &mut notes);
+    let put = put_child(d, m + 4, s, i, elements::LEVELS, role, &mut notes);
     records::put_header(d, h, s, &notes);
-    writing::put_number(d, m, wire::COUNT_WIDTH, notes[35] as u64);
-    put_child(d, m + 4, s, i, elements::LEVELS, role)
+    let messages = (put.at - (m + 4)) / 81;
+    writing::put_number(d, m, wire::COUNT_WIDTH, messages as u64);
+    put
 }
 
 // Writes the sheet, and tells how long it is.

@@ -10,7 +10,7 @@ use Rattle.prose.proofs.Turns.{text-forward}
 use Rattle.elements.specs.Grammar.{elementAt}
 use Rattle.elements.proofs.Forward.{element-onward}
 use Rattle.reading.proofs.Gathers.{Gathering, gathering-starts, gathering-broken, gathering-ends, child-ready, gathering-on}
-use Rattle.reading.proofs.Children.{levels-left, message-room, message-filled, quiet-filled, inside-ready, group-filled, bare-filled, faulty-filled}
+use Rattle.reading.proofs.Children.{levels-left, message-room, message-put, quiet-put, has-note, inside-ready, group-put, bare-put, faulty-put}
 use borrow.Fn.Kinds.{In}
 use borrow.Fn.PlainCycle.{Measures, is, falls, and}
 use Rattle.reading.proofs.gather.Reads as gather
@@ -32,30 +32,31 @@ use Rattle.tags.proofs.start.Reads as start-reads
 use Rattle.reading.proofs.+gather+put_child.{statement}
 use Rattle.reading.proofs.+gather+put_child.Tie.{close}
 
-abbrev μ-gather : Measures 2 gather-kinds.ps ℕ
+abbrev μ-gather : Measures 3 gather-kinds.ps ℕ
 μ-gather κs a = 2 * a .1 .1 .1 .1 .0 + 1
 
-abbrev μ-put-child : Measures 2 put-child-kinds.ps ℕ
+abbrev μ-put-child : Measures 3 put-child-kinds.ps ℕ
 μ-put-child κs a = 2 * a .1 .1 .1 .1 .0
 
-abbrev gather-at : ℕ → In 2 gather-kinds.ps
-gather-at t = and 2 gather-kinds.ps (is 2 gather-kinds.ps μ-gather t) gather.Pre
+abbrev gather-at : ℕ → In 3 gather-kinds.ps
+gather-at t = and 3 gather-kinds.ps (is 3 gather-kinds.ps μ-gather t) gather.Pre
 
-abbrev gather-below : ℕ → In 2 gather-kinds.ps
-gather-below t = and 2 gather-kinds.ps (falls 2 gather-kinds.ps _<_ μ-gather t) gather.Pre
+abbrev gather-below : ℕ → In 3 gather-kinds.ps
+gather-below t = and 3 gather-kinds.ps (falls 3 gather-kinds.ps _<_ μ-gather t) gather.Pre
 
-abbrev put-child-at : ℕ → In 2 put-child-kinds.ps
-put-child-at t = and 2 put-child-kinds.ps (is 2 put-child-kinds.ps μ-put-child t) put-child.Pre
+abbrev put-child-at : ℕ → In 3 put-child-kinds.ps
+put-child-at t = and 3 put-child-kinds.ps (is 3 put-child-kinds.ps μ-put-child t) put-child.Pre
 
-abbrev put-child-below : ℕ → In 2 put-child-kinds.ps
+abbrev put-child-below : ℕ → In 3 put-child-kinds.ps
 put-child-below t =
-    and 2 put-child-kinds.ps (falls 2 put-child-kinds.ps _<_ μ-put-child t) put-child.Pre
+    and 3 put-child-kinds.ps (falls 3 put-child-kinds.ps _<_ μ-put-child t) put-child.Pre
 
 abbrev gather-Inv-loop : gather-lts.InvT-loop
-gather-Inv-loop d₀ at s inside depth role i₀ m₀ d i m = (length d ≡ length d₀) × Gathering (elementAt depth s) s role inside at i m d₀ d
+gather-Inv-loop d₀ at s inside depth role notes₀ i₀ m₀ d notes i m =
+    (length d ≡ length d₀) × (length notes ≡ length notes₀) × Gathering (elementAt depth s) s role inside at i m d₀ d notes₀ notes
 
 abbrev gather-μ-loop : gather-lts.MeasureT-loop
-gather-μ-loop d₀ at s inside depth role i₀ m₀ d i m = length s - i
+gather-μ-loop d₀ at s inside depth role notes₀ i₀ m₀ d notes i m = length s - i
 
 pub +gather+put-child-spec : {M : Type 1} → statement M
 +gather+put-child-spec = close μ-gather μ-put-child (λ t. gather-lts.spec (
@@ -74,28 +75,32 @@ pub +gather+put-child-spec : {M : Type 1} → statement M
     gather.Post
     gather-Inv-loop
     gather-μ-loop
-    (λ c. (refl, gathering-starts (elementAt (c .before .before .args .depth) (c .before .before .args .s .now)) (c .before .before .args .s .now) (c .before .before .args .role) (c .before .before .args .inside) (c .before .before .args .at) (c .before .before .args .d .now)))
+    (λ c. let a = c .before .before .before .args in (refl, refl, gathering-starts (elementAt (a .depth) (a .s .now)) (a .s .now) (a .role) (a .inside) (a .at) (a .d .now) (a .notes .now)))
     (λ c κs. search needs)
     (λ c. search needs)
     (λ c. search needs)
-    (λ c. rw (gathering-broken (elementAt (c .before .before .before .before .before .before .before .args .depth) (c .before .before .before .before .before .before .before .args .s .now)) (c .before .before .before .before .before .before .before .args .s .now) (c .before .before .before .before .before .before .before .args .role) (c .before .before .before .before .before .before .before .args .inside) (c .before .before .before .before .before .before .before .args .at) (c .before .before .before .before .before .before .before .args .d .now) (element-onward (c .before .before .before .before .before .before .before .args .depth) (c .before .before .before .before .before .before .before .args .s .now)) (c .before .before .before .before .loop .i) (c .before .before .before .before .loop .m) (c .before .before .before .before .loop .d) (c .before .before .before .before .loop .inv .1) (c .before .p .given .0 .0) (sym (c .before .before .before .text-end .ensures) ∙ c .before .p .given .1)) tt)
     (λ c. search needs)
-    (λ c. let on = text-forward (c .before .before .before .before .before .before .before .args .s .now) (c .before .before .before .before .loop .i) (c .before .j .given .0 .0) (sym (c .before .before .before .text-end .ensures) ∙ c .before .j .given .1) in search needs)
+    (λ c. let a = c .before .before .before .before .before .before .before .before .args in let l = c .before .before .before .before .loop in rw (gathering-broken (elementAt (a .depth) (a .s .now)) (a .s .now) (a .role) (a .inside) (a .at) (a .d .now) (a .notes .now) (element-onward (a .depth) (a .s .now)) (l .i) (l .m) (l .d) (l .notes) (l .inv .2) (c .before .p .given .0 .0) (sym (c .before .before .before .text-end .ensures) ∙ c .before .p .given .1)) (tt, tt))
+    (λ c. search needs)
+    (λ c. let on = text-forward (c .before .before .before .before .before .before .before .before .args .s .now) (c .before .before .before .before .loop .i) (c .before .j .given .0 .0) (sym (c .before .before .before .text-end .ensures) ∙ c .before .j .given .1) in search needs)
     (λ c κs. search needs)
     (λ c. search needs)
-    (λ c. rw (gathering-ends (elementAt (c .before .before .before .before .before .before .before .before .before .args .depth) (c .before .before .before .before .before .before .before .before .before .args .s .now)) (c .before .before .before .before .before .before .before .before .before .args .s .now) (c .before .before .before .before .before .before .before .before .before .args .role) (c .before .before .before .before .before .before .before .before .before .args .inside) (c .before .before .before .before .before .before .before .before .before .args .at) (c .before .before .before .before .before .before .before .before .before .args .d .now) (element-onward (c .before .before .before .before .before .before .before .before .before .args .depth) (c .before .before .before .before .before .before .before .before .before .args .s .now)) (c .before .before .before .before .before .before .loop .i) (c .before .before .before .before .before .before .loop .m) (c .before .before .before .before .before .before .loop .d) (c .before .before .before .before .before .before .loop .inv .1) (c .before .before .before .j .given .0 .0) (sym (c .before .before .before .before .before .text-end .ensures) ∙ c .before .before .before .j .given .1) (sym (c .before .byte-at .ensures) ∙ c .if1 .taken)) (refl, (c .before .before .before .before .before .before .loop .inv .1) .place, (c .before .before .before .before .before .before .loop .inv .1) .wrote))
-    (λ c. let on = text-forward (c .before .before .before .before .before .before .before .before .before .args .s .now) (c .before .before .before .before .before .before .loop .i) (c .before .before .before .j .given .0 .0) (sym (c .before .before .before .before .before .text-end .ensures) ∙ c .before .before .before .j .given .1) in search needs)
+    (λ c. search needs)
+    (λ c. let a = c .before .before .before .before .before .before .before .before .before .before .args in let l = c .before .before .before .before .before .before .loop in rw (gathering-ends (elementAt (a .depth) (a .s .now)) (a .s .now) (a .role) (a .inside) (a .at) (a .d .now) (a .notes .now) (element-onward (a .depth) (a .s .now)) (l .i) (l .m) (l .d) (l .notes) (l .inv .2) (c .before .before .before .j .given .0 .0) (sym (c .before .before .before .before .before .text-end .ensures) ∙ c .before .before .before .j .given .1) (sym (c .before .byte-at .ensures) ∙ c .if1 .taken)) ((refl, l .inv .2 .place, l .inv .2 .wrote), l .inv .2 .carried))
+    (λ c. let on = text-forward (c .before .before .before .before .before .before .before .before .before .before .args .s .now) (c .before .before .before .before .before .before .loop .i) (c .before .before .before .j .given .0 .0) (sym (c .before .before .before .before .before .text-end .ensures) ∙ c .before .before .before .j .given .1) in search needs)
     (λ c κs. search needs)
     (λ c κs. search needs)
-    (λ c κs. (omega (arith, c .before .before .before .before .before .before .before .before .before .before .before .before .pre .0), child-ready (elementAt (c .before .before .before .before .before .before .before .before .before .before .before .before .args .depth) (c .before .before .before .before .before .before .before .before .before .before .before .before .args .s .now)) (c .before .before .before .before .before .before .before .before .before .before .before .before .args .s .now) (c .before .before .before .before .before .before .before .before .before .before .before .before .args .role) (c .before .before .before .before .before .before .before .before .before .before .before .before .args .inside) (c .before .before .before .before .before .before .before .before .before .before .before .before .args .at) (c .before .before .before .before .before .before .before .before .before .before .before .before .args .d .now) (element-onward (c .before .before .before .before .before .before .before .before .before .before .before .before .args .depth) (c .before .before .before .before .before .before .before .before .before .before .before .before .args .s .now)) (c .before .before .before .before .before .before .before .before .before .loop .i) (c .before .before .before .before .before .before .before .before .before .loop .m) (c .before .before .before .before .before .before .before .before .before .loop .d) (c .before .before .before .before .before .before .before .before .before .loop .inv .1) (c .before .before .before .before .before .before .j .given .0 .0) (c .before .child-role .result) (sym (c .before .before .before .before .before .before .before .before .text-end .ensures) ∙ c .before .before .before .before .before .before .j .given .1) (λ h. c .before .before .before .if1 .left (c .before .before .before .before .byte-at .ensures ∙ h)) (c .before .child-role .ensures ∙ (rw (c .before .before .name-at .ensures))) (c .before .before .before .before .before .before .before .before .before .before .before .before .pre .1 .end) (c .before .before .before .before .before .before .before .before .before .before .before .before .pre .1 .forest) (c .before .before .before .before .before .before .before .before .before .before .before .before .pre .1 .was) (c .before .before .before .before .before .before .before .before .before .before .before .before .pre .1 .room)))
-    (λ c. let on = text-forward (c .before .before .before .before .before .before .before .before .before .before .before .before .before .before .before .args .s .now) (c .before .before .before .before .before .before .before .before .before .before .before .before .loop .i) (c .before .before .before .before .before .before .before .before .before .j .given .0 .0) (sym (c .before .before .before .before .before .before .before .before .before .before .before .text-end .ensures) ∙ c .before .before .before .before .before .before .before .before .before .j .given .1) in
-    let r = child-ready (elementAt (c .before .before .before .before .before .before .before .before .before .before .before .before .before .before .before .args .depth) (c .before .before .before .before .before .before .before .before .before .before .before .before .before .before .before .args .s .now)) (c .before .before .before .before .before .before .before .before .before .before .before .before .before .before .before .args .s .now) (c .before .before .before .before .before .before .before .before .before .before .before .before .before .before .before .args .role) (c .before .before .before .before .before .before .before .before .before .before .before .before .before .before .before .args .inside) (c .before .before .before .before .before .before .before .before .before .before .before .before .before .before .before .args .at) (c .before .before .before .before .before .before .before .before .before .before .before .before .before .before .before .args .d .now) (element-onward (c .before .before .before .before .before .before .before .before .before .before .before .before .before .before .before .args .depth) (c .before .before .before .before .before .before .before .before .before .before .before .before .before .before .before .args .s .now)) (c .before .before .before .before .before .before .before .before .before .before .before .before .loop .i) (c .before .before .before .before .before .before .before .before .before .before .before .before .loop .m) (c .before .before .before .before .before .before .before .before .before .before .before .before .loop .d) (c .before .before .before .before .before .before .before .before .before .before .before .before .loop .inv .1) (c .before .before .before .before .before .before .before .before .before .j .given .0 .0) (c .before .before .before .before .child-role .result) (sym (c .before .before .before .before .before .before .before .before .before .before .before .text-end .ensures) ∙ c .before .before .before .before .before .before .before .before .before .j .given .1) (λ h. c .before .before .before .before .before .before .if1 .left (c .before .before .before .before .before .before .before .byte-at .ensures ∙ h)) (c .before .before .before .before .child-role .ensures ∙ (rw (c .before .before .before .before .before .name-at .ensures))) (c .before .before .before .before .before .before .before .before .before .before .before .before .before .before .before .pre .1 .end) (c .before .before .before .before .before .before .before .before .before .before .before .before .before .before .before .pre .1 .forest) (c .before .before .before .before .before .before .before .before .before .before .before .before .before .before .before .pre .1 .was) (c .before .before .before .before .before .before .before .before .before .before .before .before .before .before .before .pre .1 .room) in
-    let filled = rw (r .was) at (c .before .before .put-child .ensures) in
-    let more = element-onward (c .before .before .before .before .before .before .before .before .before .before .before .before .before .before .before .args .depth) (c .before .before .before .before .before .before .before .before .before .before .before .before .before .before .before .args .s .now) (c .before .before .before .before .child-role .result) (c .before .before .before .before .before .before .before .before .before .j .given .0 .0) (r .end) (r .forest) (r .was) in
-    omega (arith, filled .0))
-    (λ c. let r = child-ready (elementAt (c .before .before .before .before .before .before .before .before .before .before .before .before .before .before .before .args .depth) (c .before .before .before .before .before .before .before .before .before .before .before .before .before .before .before .args .s .now)) (c .before .before .before .before .before .before .before .before .before .before .before .before .before .before .before .args .s .now) (c .before .before .before .before .before .before .before .before .before .before .before .before .before .before .before .args .role) (c .before .before .before .before .before .before .before .before .before .before .before .before .before .before .before .args .inside) (c .before .before .before .before .before .before .before .before .before .before .before .before .before .before .before .args .at) (c .before .before .before .before .before .before .before .before .before .before .before .before .before .before .before .args .d .now) (element-onward (c .before .before .before .before .before .before .before .before .before .before .before .before .before .before .before .args .depth) (c .before .before .before .before .before .before .before .before .before .before .before .before .before .before .before .args .s .now)) (c .before .before .before .before .before .before .before .before .before .before .before .before .loop .i) (c .before .before .before .before .before .before .before .before .before .before .before .before .loop .m) (c .before .before .before .before .before .before .before .before .before .before .before .before .loop .d) (c .before .before .before .before .before .before .before .before .before .before .before .before .loop .inv .1) (c .before .before .before .before .before .before .before .before .before .j .given .0 .0) (c .before .before .before .before .child-role .result) (sym (c .before .before .before .before .before .before .before .before .before .before .before .text-end .ensures) ∙ c .before .before .before .before .before .before .before .before .before .j .given .1) (λ h. c .before .before .before .before .before .before .if1 .left (c .before .before .before .before .before .before .before .byte-at .ensures ∙ h)) (c .before .before .before .before .child-role .ensures ∙ (rw (c .before .before .before .before .before .name-at .ensures))) (c .before .before .before .before .before .before .before .before .before .before .before .before .before .before .before .pre .1 .end) (c .before .before .before .before .before .before .before .before .before .before .before .before .before .before .before .pre .1 .forest) (c .before .before .before .before .before .before .before .before .before .before .before .before .before .before .before .pre .1 .was) (c .before .before .before .before .before .before .before .before .before .before .before .before .before .before .before .pre .1 .room) in
-    let filled = rw (r .was) at (c .before .before .put-child .ensures) in
-    (c .before .before .put-child .kept .0 ∙ c .before .before .before .before .before .before .before .before .before .before .before .before .loop .inv .0, gathering-on (elementAt (c .before .before .before .before .before .before .before .before .before .before .before .before .before .before .before .args .depth) (c .before .before .before .before .before .before .before .before .before .before .before .before .before .before .before .args .s .now)) (c .before .before .before .before .before .before .before .before .before .before .before .before .before .before .before .args .s .now) (c .before .before .before .before .before .before .before .before .before .before .before .before .before .before .before .args .role) (c .before .before .before .before .before .before .before .before .before .before .before .before .before .before .before .args .inside) (c .before .before .before .before .before .before .before .before .before .before .before .before .before .before .before .args .at) (c .before .before .before .before .before .before .before .before .before .before .before .before .before .before .before .args .d .now) (element-onward (c .before .before .before .before .before .before .before .before .before .before .before .before .before .before .before .args .depth) (c .before .before .before .before .before .before .before .before .before .before .before .before .before .before .before .args .s .now)) (c .before .before .before .before .before .before .before .before .before .before .before .before .loop .i) (c .before .before .before .before .before .before .before .before .before .before .before .before .loop .m) (c .before .before .before .before .before .before .before .before .before .before .before .before .loop .d) (c .before .before .before .before .before .before .before .before .before .before .before .before .loop .inv .1) (c .before .before .before .before .before .before .before .before .before .j .given .0 .0) (c .before .before .before .before .child-role .result) (sym (c .before .before .before .before .before .before .before .before .before .before .before .text-end .ensures) ∙ c .before .before .before .before .before .before .before .before .before .j .given .1) (λ h. c .before .before .before .before .before .before .if1 .left (c .before .before .before .before .before .before .before .byte-at .ensures ∙ h)) (c .before .before .before .before .child-role .ensures ∙ (rw (c .before .before .before .before .before .name-at .ensures))) (c .before .before .put-child .result) _ (r .end) (r .forest) (r .was) filled)))
+    (λ c κs. let a = c .before .before .before .before .before .before .before .before .before .before .before .before .before .before .args in let l = c .before .before .before .before .before .before .before .before .before .before .loop in (omega (arith, c .before .before .before .before .before .before .before .before .before .before .before .before .before .before .pre .0), child-ready (elementAt (a .depth) (a .s .now)) (a .s .now) (a .role) (a .inside) (a .at) (a .d .now) (a .notes .now) (element-onward (a .depth) (a .s .now)) (l .i) (l .m) (l .d) (l .notes) (l .inv .2) (c .before .before .before .before .before .before .before .j .given .0 .0) (c .before .before .child-role .result) (sym (c .before .before .before .before .before .before .before .before .before .text-end .ensures) ∙ c .before .before .before .before .before .before .before .j .given .1) (λ h. c .before .before .before .before .if1 .left (c .before .before .before .before .before .byte-at .ensures ∙ h)) (c .before .before .child-role .ensures ∙ (rw (c .before .before .before .name-at .ensures))) (c .before .before .before .before .before .before .before .before .before .before .before .before .before .before .pre .1) (l .inv .1)))
+    (λ c. let a = c .before .before .before .before .before .before .before .before .before .before .before .before .before .before .before .before .before .before .before .args in let l = c .before .before .before .before .before .before .before .before .before .before .before .before .before .before .before .loop in
+    let on = text-forward (a .s .now) (l .i) (c .before .before .before .before .before .before .before .before .before .before .before .before .j .given .0 .0) (sym (c .before .before .before .before .before .before .before .before .before .before .before .before .before .before .text-end .ensures) ∙ c .before .before .before .before .before .before .before .before .before .before .before .before .j .given .1) in
+    let r = child-ready (elementAt (a .depth) (a .s .now)) (a .s .now) (a .role) (a .inside) (a .at) (a .d .now) (a .notes .now) (element-onward (a .depth) (a .s .now)) (l .i) (l .m) (l .d) (l .notes) (l .inv .2) (c .before .before .before .before .before .before .before .before .before .before .before .before .j .given .0 .0) (c .before .before .before .before .before .before .before .child-role .result) (sym (c .before .before .before .before .before .before .before .before .before .before .before .before .before .before .text-end .ensures) ∙ c .before .before .before .before .before .before .before .before .before .before .before .before .j .given .1) (λ h. c .before .before .before .before .before .before .before .before .before .if1 .left (c .before .before .before .before .before .before .before .before .before .before .byte-at .ensures ∙ h)) (c .before .before .before .before .before .before .before .child-role .ensures ∙ (rw (c .before .before .before .before .before .before .before .before .name-at .ensures))) (c .before .before .before .before .before .before .before .before .before .before .before .before .before .before .before .before .before .before .before .pre .1) (l .inv .1) in
+    let put = rw (r .was) at (c .before .before .before .before .put-child .ensures) in
+    let more = element-onward (a .depth) (a .s .now) (c .before .before .before .before .before .before .before .child-role .result) (c .before .before .before .before .before .before .before .before .before .before .before .before .j .given .0 .0) (r .end) (r .forest) (r .was) in
+    omega (arith, put .0 .0))
+    (λ c. let a = c .before .before .before .before .before .before .before .before .before .before .before .before .before .before .before .before .before .before .before .args in let l = c .before .before .before .before .before .before .before .before .before .before .before .before .before .before .before .loop in
+    let r = child-ready (elementAt (a .depth) (a .s .now)) (a .s .now) (a .role) (a .inside) (a .at) (a .d .now) (a .notes .now) (element-onward (a .depth) (a .s .now)) (l .i) (l .m) (l .d) (l .notes) (l .inv .2) (c .before .before .before .before .before .before .before .before .before .before .before .before .j .given .0 .0) (c .before .before .before .before .before .before .before .child-role .result) (sym (c .before .before .before .before .before .before .before .before .before .before .before .before .before .before .text-end .ensures) ∙ c .before .before .before .before .before .before .before .before .before .before .before .before .j .given .1) (λ h. c .before .before .before .before .before .before .before .before .before .if1 .left (c .before .before .before .before .before .before .before .before .before .before .byte-at .ensures ∙ h)) (c .before .before .before .before .before .before .before .child-role .ensures ∙ (rw (c .before .before .before .before .before .before .before .before .name-at .ensures))) (c .before .before .before .before .before .before .before .before .before .before .before .before .before .before .before .before .before .before .before .pre .1) (l .inv .1) in
+    let put = rw (r .was) at (c .before .before .before .before .put-child .ensures) in
+    (c .before .before .before .before .put-child .kept .0 ∙ l .inv .0, c .before .before .before .before .put-child .kept .1 .1 .1 .1 .1 .1 .0 ∙ l .inv .1, gathering-on (elementAt (a .depth) (a .s .now)) (a .s .now) (a .role) (a .inside) (a .at) (a .d .now) (a .notes .now) (element-onward (a .depth) (a .s .now)) (l .i) (l .m) (l .d) (l .notes) (l .inv .2) (c .before .before .before .before .before .before .before .before .before .before .before .before .j .given .0 .0) (c .before .before .before .before .before .before .before .child-role .result) (sym (c .before .before .before .before .before .before .before .before .before .before .before .before .before .before .text-end .ensures) ∙ c .before .before .before .before .before .before .before .before .before .before .before .before .j .given .1) (λ h. c .before .before .before .before .before .before .before .before .before .if1 .left (c .before .before .before .before .before .before .before .before .before .before .byte-at .ensures ∙ h)) (c .before .before .before .before .before .before .before .child-role .ensures ∙ (rw (c .before .before .before .before .before .before .before .before .name-at .ensures))) (c .before .before .before .before .put-child .result) _ _ (r .end) (r .forest) (r .was) (put .0) (put .1))))
     λ t. put-child-lts.spec (
       is-message-reads.Asked,
       is-message-reads.Learnt,
@@ -115,21 +120,29 @@ pub +gather+put-child-spec : {M : Type 1} → statement M
     (put-child-at t)
     put-child.Post
     (λ c κs. search needs)
-    (λ c κs. search needs)
-    (λ c. let room = message-room (c .before .before .before .before .before .before .before .before .args .depth) (c .before .before .before .before .before .before .before .before .args .s .now) (c .before .before .before .before .before .before .before .before .args .role) (c .before .before .before .before .before .before .before .before .args .j) (c .before .before .before .before .before .before .before .before .args .at) (c .before .before .before .before .before .before .before .before .args .d .now) (c .before .before .before .before .before .before .before .before .pre .1) (sym (c .before .before .before .before .before .is-message .ensures) ∙ c .before .before .before .before .if1 .taken) in search needs)
-    (λ c. search needs)
-    (λ c. message-filled (c .before .before .before .before .before .before .before .before .args .depth) (c .before .before .before .before .before .before .before .before .args .s .now) (c .before .before .before .before .before .before .before .before .args .role) (c .before .before .before .before .before .before .before .before .args .j) (c .before .before .before .before .before .before .before .before .args .at) (c .before .before .before .before .before .before .before .before .args .d .now) (c .before .before .before .before .before .before .before .before .pre .1) (sym (c .before .before .before .before .before .is-message .ensures) ∙ c .before .before .before .before .if1 .taken) _ _ (c .before .before .put-one .ensures .0) refl (c .before .before .put-one .ensures .1))
-    (λ c κs. search needs)
-    (λ c κs. search needs)
-    (λ c. quiet-filled (c .before .before .before .before .before .before .before .args .depth) (c .before .before .before .before .before .before .before .args .s .now) (c .before .before .before .before .before .before .before .args .role) (c .before .before .before .before .before .before .before .args .j) (c .before .before .before .before .before .before .before .args .at) (c .before .before .before .before .before .before .before .args .d .now) (c .before .before .before .before .before .before .before .pre .1) (sym (c .before .before .before .before .is-message .ensures) ∙ c .before .before .before .if1 .left) (sym (c .before .before .holds .ensures) ∙ not-true _ (c .before .if2 .taken)) _ (c .after .ensures) refl)
-    (λ c κs. search needs)
-    (λ c. search needs)
-    (λ c. let left = levels-left (c .before .before .before .before .before .before .before .before .before .before .before .args .depth) (c .before .before .before .before .before .before .before .before .before .before .before .args .s .now) (c .before .before .before .before .before .before .before .before .before .before .before .args .role) (c .before .before .before .before .before .before .before .before .before .before .before .args .j) (c .before .before .before .before .before .before .before .before .before .before .before .args .at) (c .before .before .before .before .before .before .before .before .before .before .before .args .d .now) (c .before .before .before .before .before .before .before .before .before .before .before .pre .1) in omega arith)
-    (λ c κs. (let left = levels-left (c .before .before .before .before .before .before .before .before .before .before .before .args .depth) (c .before .before .before .before .before .before .before .before .before .before .before .args .s .now) (c .before .before .before .before .before .before .before .before .before .before .before .args .role) (c .before .before .before .before .before .before .before .before .before .before .before .args .j) (c .before .before .before .before .before .before .before .before .before .before .before .args .at) (c .before .before .before .before .before .before .before .before .before .before .before .args .d .now) (c .before .before .before .before .before .before .before .before .before .before .before .pre .1) in omega (arith, c .before .before .before .before .before .before .before .before .before .before .before .pre .0), inside-ready (c .before .before .before .before .before .before .before .before .before .before .before .args .depth) (c .before .before .before .before .before .before .before .before .before .before .before .args .s .now) (c .before .before .before .before .before .before .before .before .before .before .before .args .role) (c .before .before .before .before .before .before .before .before .before .before .before .args .j) (c .before .before .before .before .before .before .before .before .before .before .before .args .at) (c .before .before .before .before .before .before .before .before .before .before .before .args .d .now) (c .before .before .before .before .before .before .before .before .before .before .before .pre .1) (sym (c .before .before .before .before .before .before .holds .ensures) ∙ not-false _ (c .before .before .before .before .before .if2 .left)) (c .before .before .inside .given .0 .0) (c .before .before .inside .given .0 .1 .0) (sym (c .before .before .before .before .start .ensures) ∙ c .before .before .inside .given .1)))
-    (λ c κs. search needs)
+    (λ c κs. c .before .before .before .before .before .before .before .pre .1 .sized)
+    (λ c. let a = c .before .before .before .before .before .before .before .before .before .before .before .before .args in let room = message-room (a .depth) (a .s .now) (a .role) (a .j) (a .at) (a .d .now) (a .notes .now) (c .before .before .before .before .before .before .before .before .before .before .before .before .pre .1) (sym (c .before .before .before .before .before .before .before .before .is-message .ensures) ∙ c .before .before .before .before .before .before .before .if1 .taken) in search needs)
     (λ c. search needs)
     (λ c. search needs)
+    (λ c. let a = c .before .before .before .before .before .before .before .before .before .before .before .before .args in let one = c .before .before .before .before .put-one .ensures in message-put (a .depth) (a .s .now) (a .role) (a .j) (a .at) (a .d .now) (a .notes .now) (c .before .before .before .before .before .before .before .before .before .before .before .before .pre .1) (sym (c .before .before .before .before .before .before .before .before .is-message .ensures) ∙ c .before .before .before .before .before .before .before .if1 .taken) _ _ _ (one .0) refl (one .1 .0) (one .1 .1))
+    (λ c κs. search needs)
+    (λ c κs. search needs)
     (λ c. search needs)
-    (λ c. group-filled (c .before .before .before .before .before .before .before .before .before .before .before .before .before .before .before .args .depth) (c .before .before .before .before .before .before .before .before .before .before .before .before .before .before .before .args .s .now) (c .before .before .before .before .before .before .before .before .before .before .before .before .before .before .before .args .role) (c .before .before .before .before .before .before .before .before .before .before .before .before .before .before .before .args .j) (c .before .before .before .before .before .before .before .before .before .before .before .before .before .before .before .args .at) (c .before .before .before .before .before .before .before .before .before .before .before .before .before .before .before .args .d .now) (c .before .before .before .before .before .before .before .before .before .before .before .before .before .before .before .pre .1) (sym (c .before .before .before .before .before .before .before .before .before .before .holds .ensures) ∙ not-false _ (c .before .before .before .before .before .before .before .before .before .if2 .left)) (c .before .before .before .before .before .before .inside .given .0 .0) (c .before .before .before .before .before .before .inside .given .0 .1 .0) (sym (c .before .before .before .before .before .before .before .before .start .ensures) ∙ c .before .before .before .before .before .before .inside .given .1) (c .before .before .before .gather .result) _ _ (c .before .before .before .gather .ensures) (c .closed .ensures) refl)
-    (λ c. bare-filled (c .before .before .before .before .before .before .before .before .before .before .args .depth) (c .before .before .before .before .before .before .before .before .before .before .args .s .now) (c .before .before .before .before .before .before .before .before .before .before .args .role) (c .before .before .before .before .before .before .before .before .before .before .args .j) (c .before .before .before .before .before .before .before .before .before .before .args .at) (c .before .before .before .before .before .before .before .before .before .before .args .d .now) (c .before .before .before .before .before .before .before .before .before .before .pre .1) (sym (c .before .before .before .before .before .holds .ensures) ∙ not-false _ (c .before .before .before .before .if2 .left)) (c .before .next .given .0 .0) (c .before .next .given .0 .1 .0) (sym (c .before .before .before .start .ensures) ∙ c .before .next .given .1) _ refl refl)
-    (λ c. faulty-filled (c .before .before .before .before .before .before .before .before .before .before .args .depth) (c .before .before .before .before .before .before .before .before .before .before .args .s .now) (c .before .before .before .before .before .before .before .before .before .before .args .role) (c .before .before .before .before .before .before .before .before .before .before .args .j) (c .before .before .before .before .before .before .before .before .before .before .args .at) (c .before .before .before .before .before .before .before .before .before .before .args .d .now) (c .before .before .before .before .before .before .before .before .before .before .pre .1) (sym (c .before .before .before .before .before .holds .ensures) ∙ not-false _ (c .before .before .before .before .if2 .left)) (c .before .p .given .0 .0) (sym (c .before .before .before .start .ensures) ∙ c .before .p .given .1) _)
+    (λ c. let a = c .before .before .before .before .before .before .before .before .before .before .before .args in let its = c .before .before .after .ensures in quiet-put (a .depth) (a .s .now) (a .role) (a .j) (a .at) (a .d .now) (a .notes .now) (c .before .before .before .before .before .before .before .before .before .before .before .pre .1) (sym (c .before .before .before .before .before .before .before .is-message .ensures) ∙ c .before .before .before .before .before .before .if1 .left) (sym (c .before .before .before .before .before .holds .ensures) ∙ not-true _ (c .before .before .before .before .if2 .taken)) _ _ (its .0) refl (its .1))
+    (λ c κs. search needs)
+    (λ c. search needs)
+    (λ c. let a = c .before .before .before .before .before .before .before .before .before .before .before .before .args in let left = levels-left (a .depth) (a .s .now) (a .role) (a .j) (a .at) (a .d .now) (a .notes .now) (c .before .before .before .before .before .before .before .before .before .before .before .before .pre .1) in omega arith)
+    (λ c κs. let a = c .before .before .before .before .before .before .before .before .before .before .before .before .before .args in let left = levels-left (a .depth) (a .s .now) (a .role) (a .j) (a .at) (a .d .now) (a .notes .now) (c .before .before .before .before .before .before .before .before .before .before .before .before .before .pre .1) in (omega (arith, c .before .before .before .before .before .before .before .before .before .before .before .before .before .pre .0), inside-ready (a .depth) (a .s .now) (a .role) (a .j) (a .at) (a .d .now) (a .notes .now) (c .before .before .before .before .before .before .before .before .before .before .before .before .before .pre .1) (sym (c .before .before .before .before .before .before .before .holds .ensures) ∙ not-false _ (c .before .before .before .before .before .before .if2 .left)) (c .before .before .before .inside .given .0 .0) (c .before .before .before .inside .given .0 .1 .0) (sym (c .before .before .before .before .before .start .ensures) ∙ c .before .before .before .inside .given .1)))
+    (λ c. let a = c .before .before .before .before .before .before .before .before .before .before .before .before .before .before .before .before .before .before .args in let low = has-note (a .depth) (a .s .now) (a .role) (a .j) (a .at) (a .d .now) (a .notes .now) (c .before .before .before .before .before .before .before .before .before .before .before .before .before .before .before .before .before .before .pre .1) (sym (c .before .before .before .before .before .before .before .before .before .before .before .before .holds .ensures) ∙ not-false _ (c .before .before .before .before .before .before .before .before .before .before .before .if2 .left)) (a .notes .now) refl in search needs)
+    (λ c. let a = c .before .before .before .before .before .before .before .before .before .before .before .before .before .before .before .before .before .before .args in has-note (a .depth) (a .s .now) (a .role) (a .j) (a .at) (a .d .now) (a .notes .now) (c .before .before .before .before .before .before .before .before .before .before .before .before .before .before .before .before .before .before .pre .1) (sym (c .before .before .before .before .before .before .before .before .before .before .before .before .holds .ensures) ∙ not-false _ (c .before .before .before .before .before .before .before .before .before .before .before .if2 .left)) (c .before .before .before .before .gather .last .1 .1 .1 .1 .1 .1 .0) (c .before .before .before .before .gather .kept .1 .1 .1 .1 .1 .1 .0))
+    (λ c κs. search needs)
+    (λ c. search needs)
+    (λ c. let a = c .before .before .before .before .before .before .before .before .before .before .before .args in let low = has-note (a .depth) (a .s .now) (a .role) (a .j) (a .at) (a .d .now) (a .notes .now) (c .before .before .before .before .before .before .before .before .before .before .before .pre .1) (sym (c .before .before .before .before .before .holds .ensures) ∙ not-false _ (c .before .before .before .before .if2 .left)) (a .notes .now) refl in search needs)
+    (λ c. let a = c .before .before .before .before .before .before .before .before .before .before .before .args in has-note (a .depth) (a .s .now) (a .role) (a .j) (a .at) (a .d .now) (a .notes .now) (c .before .before .before .before .before .before .before .before .before .before .before .pre .1) (sym (c .before .before .before .before .before .holds .ensures) ∙ not-false _ (c .before .before .before .before .if2 .left)) (a .notes .now) refl)
+    (λ c. search needs)
+    (λ c. search needs)
+    (λ c. search needs)
+    (λ c. let a = c .before .before .before .before .before .before .before .before .before .before .before .before .before .before .before .before .before .before .before .args in group-put (a .depth) (a .s .now) (a .role) (a .j) (a .at) (a .d .now) (a .notes .now) (c .before .before .before .before .before .before .before .before .before .before .before .before .before .before .before .before .before .before .before .pre .1) (sym (c .before .before .before .before .before .before .before .before .before .before .before .before .before .holds .ensures) ∙ not-false _ (c .before .before .before .before .before .before .before .before .before .before .before .before .if2 .left)) (c .before .before .before .before .before .before .before .before .before .inside .given .0 .0) (c .before .before .before .before .before .before .before .before .before .inside .given .0 .1 .0) (sym (c .before .before .before .before .before .before .before .before .before .before .before .start .ensures) ∙ c .before .before .before .before .before .before .before .before .before .inside .given .1) (c .before .before .before .before .before .gather .result) _ _ _ (c .before .before .before .before .before .gather .kept .1 .1 .1 .1 .1 .1 .0) (c .before .before .before .before .before .gather .ensures) (c .closed .ensures) refl)
+    (λ c. search needs)
+    (λ c. let a = c .before .before .before .before .before .before .before .before .before .before .before .args in bare-put (a .depth) (a .s .now) (a .role) (a .j) (a .at) (a .d .now) (a .notes .now) (c .before .before .before .before .before .before .before .before .before .before .before .pre .1) (sym (c .before .before .before .before .before .holds .ensures) ∙ not-false _ (c .before .before .before .before .if2 .left)) (c .before .next .given .0 .0) (c .before .next .given .0 .1 .0) (sym (c .before .before .before .start .ensures) ∙ c .before .next .given .1) _ refl refl)
+    (λ c. let a = c .before .before .before .before .before .before .before .before .before .before .before .args in faulty-put (a .depth) (a .s .now) (a .role) (a .j) (a .at) (a .d .now) (a .notes .now) (c .before .before .before .before .before .before .before .before .before .before .before .pre .1) (sym (c .before .before .before .before .before .holds .ensures) ∙ not-false _ (c .before .before .before .before .if2 .left)) (c .before .p .given .0 .0) (sym (c .before .before .before .start .ensures) ∙ c .before .p .given .1) _)

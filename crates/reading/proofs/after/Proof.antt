@@ -1,11 +1,11 @@
 -- `reading::after` meets its contract. Assumes nothing.
-use mathlib.Core.Path.{_≡_, refl, sym, ap, _∙_}
+use mathlib.Core.Path.{_≡_, _∙_}
 use borrow.Author.Needs.{needs}
 use Rattle.reading.proofs.after.Statement.{statement}
 use Rattle.reading.proofs.after.Tie as tie
 
 returns : tie.Need-returns
-returns c = c .place-of .ensures ∙ (rw (c .before .before .read-element .ensures .0))
+returns c = let told = c .before .before .before .read-element .ensures in (c .place-of .ensures ∙ (rw (told .0)), told .1)
 
 pub after-spec : {M : Type 1} → statement M
-after-spec = tie.close (tie.spec (λ c. search needs) (λ c κs. search needs) (λ c κs. search needs) returns)
+after-spec = tie.close (tie.spec (λ c κs. search needs) (λ c κs. search needs) (λ c. search needs) returns)

@@ -23,39 +23,63 @@ abbrev μ-loop : tie.MeasureT-loop
 μ-loop s first space i₀ lack₀ bulks₀ room₀ i lack bulks room = length s - i
 
 loop-holds : tie.Need-loop-holds Inv-loop μ-loop
-loop-holds c = survey-starts (c .before .before .args .s .now) (c .before .before .args .space) (c .before .before .args .first) _ (omega (arith, c .least .ensures)) refl
+loop-holds c = let a = c .before .before .args in survey-starts (a .s .now) (a .space) (a .first) _ (omega (arith, c .least .ensures)) refl
 
 returns : tie.Need-returns Inv-loop μ-loop
-returns c = rw (survey-odd (c .before .before .before .before .before .before .args .s .now) (c .before .before .before .before .before .before .args .space) (c .before .before .before .before .before .before .args .first) (c .before .before .before .loop .i) (c .before .before .before .loop .lack) (c .before .before .before .loop .bulks) (c .before .before .before .loop .room) (c .before .before .before .loop .inv) (c .before .before .loop-test .taken) (c .if1 .taken))
+returns c = let a = c .before .before .before .before .before .before .args in let l = c .before .before .before .loop in rw (survey-odd (a .s .now) (a .space) (a .first) (l .i) (l .lack) (l .bulks) (l .room) (l .inv) (c .before .before .loop-test .taken) (c .if1 .taken))
 
 taken-requires : tie.Need-taken-requires Inv-loop μ-loop
 taken-requires c κs =
-    let done = done-read (documentAt (c .before .before .before .before .before .before .before .before .before .before .args .s .now) (c .before .before .before .before .before .before .before .loop .i)) (c .before .step .given .0 .0) (sym (c .before .before .before .look .ensures .0) ∙ c .before .step .given .1) in
-    looked-few (documentAt (c .before .before .before .before .before .before .before .before .before .before .args .s .now) (c .before .before .before .before .before .before .before .loop .i)) (c .before .step .given .0 .0) (done .forest) (c .before .before .before .before .before .before .before .loop .lack) _ (done .was) (c .before .before .before .look .ensures .1)
+    let a = c .before .before .before .before .before .before .before .before .before .before .args in
+    let l = c .before .before .before .before .before .before .before .loop in
+    let step = c .before .step .given in
+    let done = done-read (documentAt (a .s .now) (l .i)) (step .0 .0) (sym (c .before .before .before .look .ensures .0) ∙ step .1) in
+    looked-few (documentAt (a .s .now) (l .i)) (step .0 .0) (done .forest) (l .lack) _ (done .was) (c .before .before .before .look .ensures .1)
+
+-- each document takes a byte or more
+add-bulks : tie.Need-add-bulks Inv-loop μ-loop
+add-bulks c = let low = c .before .before .before .before .before .before .before .before .loop .inv .bulks-low in search needs
 
 loop-less : tie.Need-loop-less Inv-loop μ-loop
 loop-less c =
-    let done = done-read (documentAt (c .before .before .before .before .before .before .before .before .before .before .before .before .before .args .s .now) (c .before .before .before .before .before .before .before .before .before .before .loop .i)) (c .before .before .before .before .step .given .0 .0) (sym (c .before .before .before .before .before .before .look .ensures .0) ∙ c .before .before .before .before .step .given .1) in
-    let on = document-onward (c .before .before .before .before .before .before .before .before .before .before .before .before .before .args .s .now) (c .before .before .before .before .before .before .before .before .before .before .loop .i) (c .before .before .before .before .step .given .0 .0) (done .forest) (done .was) in
-    omega (arith, c .space-end .ensures, (c .before .before .before .before .before .before .before .before .before .loop-test .taken))
+    let a = c .before .before .before .before .before .before .before .before .before .before .before .before .args in
+    let l = c .before .before .before .before .before .before .before .before .before .loop in
+    let step = c .before .before .before .step .given in
+    let done = done-read (documentAt (a .s .now) (l .i)) (step .0 .0) (sym (c .before .before .before .before .before .look .ensures .0) ∙ step .1) in
+    let on = document-onward (a .s .now) (l .i) (step .0 .0) (done .forest) (done .was) in
+    omega (arith, c .space-end .ensures, c .before .before .before .before .before .before .before .before .loop-test .taken)
 
 loop-again : tie.Need-loop-again Inv-loop μ-loop
 loop-again c =
-    let done = done-read (documentAt (c .before .before .before .before .before .before .before .before .before .before .before .before .before .args .s .now) (c .before .before .before .before .before .before .before .before .before .before .loop .i)) (c .before .before .before .before .step .given .0 .0) (sym (c .before .before .before .before .before .before .look .ensures .0) ∙ c .before .before .before .before .step .given .1) in
-    rw (c .space-end .ensures, c .before .before .taken .ensures)
-    (survey-on (c .before .before .before .before .before .before .before .before .before .before .before .before .before .args .s .now) (c .before .before .before .before .before .before .before .before .before .before .before .before .before .args .space) (c .before .before .before .before .before .before .before .before .before .before .before .before .before .args .first) (c .before .before .before .before .before .before .before .before .before .before .loop .i) (c .before .before .before .before .before .before .before .before .before .before .loop .lack) (c .before .before .before .before .before .before .before .before .before .before .loop .bulks) (c .before .before .before .before .before .before .before .before .before .before .loop .room) (c .before .before .before .before .before .before .before .before .before .before .loop .inv) (c .before .before .before .before .step .given .0 .0) (done .forest) (c .before .before .before .before .before .before .look .result) (c .before .one-more .result) (c .before .before .before .before .before .before .before .before .before .loop-test .taken) (c .before .before .before .before .before .before .before .if1 .left) (done .was)
-    (looked-read (documentAt (c .before .before .before .before .before .before .before .before .before .before .before .before .before .args .s .now) (c .before .before .before .before .before .before .before .before .before .before .loop .i)) (c .before .before .before .before .step .given .0 .0) (done .forest) (c .before .before .before .before .before .before .before .before .before .before .loop .lack) (c .before .before .before .before .before .before .look .result) (done .was) (c .before .before .before .before .before .before .look .ensures .1)) (c .before .one-more .ensures))
+    let a = c .before .before .before .before .before .before .before .before .before .before .before .before .args in
+    let l = c .before .before .before .before .before .before .before .before .before .loop in
+    let step = c .before .before .before .step .given in
+    let seen = c .before .before .before .before .before .look .result in
+    let done = done-read (documentAt (a .s .now) (l .i)) (step .0 .0) (sym (c .before .before .before .before .before .look .ensures .0) ∙ step .1) in
+    let told = looked-read (documentAt (a .s .now) (l .i)) (step .0 .0) (done .forest) (l .lack) seen (done .was) (c .before .before .before .before .before .look .ensures .1) in
+    rw (c .space-end .ensures, c .before .taken .ensures) (survey-on (a .s .now) (a .space) (a .first) (l .i) (l .lack) (l .bulks) (l .room) (l .inv) (step .0 .0) (done .forest) seen (c .before .before .before .before .before .before .before .before .loop-test .taken) (c .before .before .before .before .before .before .if1 .left) (done .was) told)
 
 returns-2 : tie.Need-returns-2 Inv-loop μ-loop
-returns-2 c = rw (survey-stops (c .before .before .before .before .before .before .before .before .before .before .args .s .now) (c .before .before .before .before .before .before .before .before .before .before .args .space) (c .before .before .before .before .before .before .before .before .before .before .args .first) (c .before .before .before .before .before .before .before .loop .i) (c .before .before .before .before .before .before .before .loop .lack) (c .before .before .before .before .before .before .before .loop .bulks) (c .before .before .before .before .before .before .before .loop .room) (c .before .before .before .before .before .before .before .loop .inv) (broken (c .before .step2 .given .0 .0)) (c .before .before .before .before .before .before .loop-test .taken) (c .before .before .before .before .if1 .left) (form-broken (documentAt (c .before .before .before .before .before .before .before .before .before .before .args .s .now) (c .before .before .before .before .before .before .before .loop .i)) (c .before .step2 .given .0 .0) (sym (c .before .before .before .look .ensures .0) ∙ c .before .step2 .given .1)))
+returns-2 c =
+    let a = c .before .before .before .before .before .before .before .before .before .before .args in
+    let l = c .before .before .before .before .before .before .before .loop in
+    let step = c .before .step2 .given in
+    rw (survey-stops (a .s .now) (a .space) (a .first) (l .i) (l .lack) (l .bulks) (l .room) (l .inv) (broken (step .0 .0)) (c .before .before .before .before .before .before .loop-test .taken) (c .before .before .before .before .if1 .left) (form-broken (documentAt (a .s .now) (l .i)) (step .0 .0) (sym (c .before .before .before .look .ensures .0) ∙ step .1)))
 
 returns-3 : tie.Need-returns-3 Inv-loop μ-loop
-returns-3 c = rw (survey-stops (c .before .before .before .before .before .before .before .before .before .before .args .s .now) (c .before .before .before .before .before .before .before .before .before .before .args .space) (c .before .before .before .before .before .before .before .before .before .before .args .first) (c .before .before .before .before .before .before .before .loop .i) (c .before .before .before .before .before .before .before .loop .lack) (c .before .before .before .before .before .before .before .loop .bulks) (c .before .before .before .before .before .before .before .loop .room) (c .before .before .before .before .before .before .before .loop .inv) (deep (c .before .step3 .given .0 .0)) (c .before .before .before .before .before .before .loop-test .taken) (c .before .before .before .before .if1 .left) (deep-deep (documentAt (c .before .before .before .before .before .before .before .before .before .before .args .s .now) (c .before .before .before .before .before .before .before .loop .i)) (c .before .step3 .given .0 .0) (sym (c .before .before .before .look .ensures .0) ∙ c .before .step3 .given .1)))
+returns-3 c =
+    let a = c .before .before .before .before .before .before .before .before .before .before .args in
+    let l = c .before .before .before .before .before .before .before .loop in
+    let step = c .before .step3 .given in
+    rw (survey-stops (a .s .now) (a .space) (a .first) (l .i) (l .lack) (l .bulks) (l .room) (l .inv) (deep (step .0 .0)) (c .before .before .before .before .before .before .loop-test .taken) (c .before .before .before .before .if1 .left) (deep-deep (documentAt (a .s .now) (l .i)) (step .0 .0) (sym (c .before .before .before .look .ensures .0) ∙ step .1)))
 
 returns-4 : tie.Need-returns-4 Inv-loop μ-loop
 returns-4 c =
-    rw (survey-ends (c .before .before .before .before .before .args .s .now) (c .before .before .before .before .before .args .space) (c .before .before .before .before .before .args .first) (c .before .before .loop .i) (c .before .before .loop .lack) (c .before .before .loop .bulks) (c .before .before .loop .room) (c .before .before .loop .inv) (c .before .loop-test .left))
-    (c .conclude .ensures ∙ concludes (c .before .before .before .before .before .args .s .now) (c .before .before .before .before .before .args .space) (c .before .before .loop .lack) (c .before .before .loop .bulks) (c .before .before .loop .room .short) (c .before .before .loop .inv .sofar) (firstLack (c .before .before .loop .inv .sofar) (length (c .before .before .before .before .before .args .s .now))) (c .before .before .loop .inv .lack-is) (c .before .before .loop .inv .short-is) (c .before .before .loop .inv .bulks-are))
+    let a = c .before .before .before .before .before .args in
+    let l = c .before .before .loop in
+    let now = l .inv in
+    rw (survey-ends (a .s .now) (a .space) (a .first) (l .i) (l .lack) (l .bulks) (l .room) (l .inv) (c .before .loop-test .left))
+    (c .conclude .ensures ∙ concludes (a .s .now) (a .space) (l .lack) (l .bulks) (l .room .short) (now .sofar) (firstLack (now .sofar) (length (a .s .now))) (now .lack-is) (now .short-is) (now .bulks-are))
 
 pub first-reading-spec : {M : Type 1} → statement M
 first-reading-spec =
@@ -71,7 +95,7 @@ first-reading-spec =
     (λ c κs. search needs)
     (λ c. search needs)
     taken-requires
-    (λ c κs. search needs)
+    add-bulks
     (λ c κs. search needs)
     loop-less
     loop-again
