@@ -16,8 +16,8 @@ use Rattle.reading.specs.Meaning.{bulksIn, sheetIn, countable, allCounta
 use Rattle.reading.specs.Survey.{needed, concluded, surveyOf}
 use Rattle.reading.specs.Filling.{Fitting, PutSheet}
 use Rattle.reading.specs.Reading.{outcome, outcomeOf, answered, whenMade}
-use Rattle.reading.specs.declared.Survey.{Survey}
-use Rattle.reading.specs.declared.Survey.the-variants as survey
+use Rattle.reading.specs.declared.survey.Survey.{Survey}
+use Rattle.reading.specs.declared.survey.Survey.the-variants as survey
 use Rattle.reading.specs.declared.Reading.{Reading}
 use Rattle.reading.specs.declared.Reading.the-variants as reading
 use Rattle.reading.proofs.Sheets.{both, sheet-length}

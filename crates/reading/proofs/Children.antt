@@ -24,7 +24,7 @@ use Rattle.elements.proofs.Forward.{Went, went, Reached, reached}
 use Rattle.elements.proofs.Elements.{element-group}
 use Rattle.elements.proofs.Calm.{Held, element-held, element-quiet}
 use Rattle.reading.specs.Filling.{messageBytes, forgotten, Ready, Filled, HeaderNoted, placeOf, reachedPlace, busy}
-use Rattle.reading.specs.declared.Put.{Put}
+use Rattle.reading.specs.declared.filling.Put.{Put}
 use Rattle.reading.proofs.Carrying.{carried-none, carried-group, carried-noted, message-own, message-carried}
 
 -- what is known of a message's role, by what it is

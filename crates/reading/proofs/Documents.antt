@@ -16,7 +16,7 @@ use Rattle.elements.specs.Grammar.{Parsed, read}
 use Rattle.elements.specs.Questions.{placeIn, messagesIn}
 use Rattle.reading.specs.Meaning.{placesIn, bulkIn}
 use Rattle.reading.specs.Filling.{messagesBytes, section, Ready, Filled, HeaderNoted, Placed, PutWhole}
-use Rattle.reading.specs.declared.Put.{Put}
+use Rattle.reading.specs.declared.filling.Put.{Put}
 use Rattle.reading.proofs.Carrying.{header-alike}
 use Rattle.reading.proofs.Sheets.{map-length}
 

@@ -28,7 +28,7 @@ use Rattle.reading.specs.Text.{documentAt, rootsAt}
 use Rattle.reading.specs.Meaning.{placesIn, bulkIn, bulksIn, sheetIn, countable, allCountable}
 use Rattle.reading.specs.Filling.{section, Ready, Placed, PutWhole, Fitting, PutSheet}
 use Rattle.reading.specs.Survey.{needed}
-use Rattle.reading.specs.declared.Put.{Put}
+use Rattle.reading.specs.declared.filling.Put.{Put}
 use Rattle.reading.proofs.Roots.{roots-end, roots-odd, roots-document}
 use Rattle.reading.proofs.Surveys.{Root, root-told, bulks-beside, countable-beside}
 use Rattle.reading.proofs.Sofar.{behind, nothing-yet, further}

@@ -22,7 +22,7 @@ use Rattle.elements.proofs.Forward.{Went, went, Onward, content-broken, content
 use Rattle.elements.proofs.Calm.{messages-beside}
 use Rattle.reading.specs.Meaning.{placesIn}
 use Rattle.reading.specs.Filling.{messageBytes, messagesBytes, Carried, Ready, Filled, HeaderNoted}
-use Rattle.reading.specs.declared.Put.{Put}
+use Rattle.reading.specs.declared.filling.Put.{Put}
 use Rattle.reading.proofs.Sofar.{behind, nothing-yet, further}
 use Rattle.reading.proofs.Carrying.{carried-none, carried-on}
 

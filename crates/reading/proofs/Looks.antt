@@ -11,7 +11,7 @@ use Rattle.elements.specs.Notes.{noted, notesOf, tooMany}
 use Rattle.elements.specs.Questions.{firstLack, messagesIn}
 use Rattle.elements.proofs.Noting.{noted-lack, noted-messages}
 use Rattle.reading.specs.Survey.{Looked, messageCount}
-use Rattle.reading.specs.declared.Seen.{Seen}
+use Rattle.reading.specs.declared.survey.Seen.{Seen}
 
 -- notes that are empty but for the place before which something lacks
 abbrev pub blank : ℕ → List ℕ

@@ -20,8 +20,8 @@ use Rattle.elements.specs.Questions.{messagesIn}
 use Rattle.reading.specs.Meaning.{placesIn, bulkIn, bulksIn, sheetIn, countable, allCountable, fitsIn}
 use Rattle.reading.specs.Filling.{section}
 use Rattle.reading.specs.Survey.{messageCount, cost, needed, enough, concluded}
-use Rattle.reading.specs.declared.Survey.{Survey}
-use Rattle.reading.specs.declared.Survey.the-variants.{Fine, Form, Deep, Lack, Short}
+use Rattle.reading.specs.declared.survey.Survey.{Survey}
+use Rattle.reading.specs.declared.survey.Survey.the-variants.{Fine, Form, Deep, Lack, Short}
 
 -- ---- parts of a sheet
 

@@ -21,8 +21,8 @@ use Rattle.elements.proofs.Forward.{Shape, stepped, one, element-told}
 use Rattle.reading.specs.Text.{levels, documentAt, rootsAt}
 use Rattle.reading.specs.Meaning.{bulkIn, bulksIn, countable, allCountable, fitsIn}
 use Rattle.reading.specs.Survey.{messageCount, Looked, cost, needed, enough, takenOf, concluded, surveyOf}
-use Rattle.reading.specs.declared.Seen.{Seen}
-use Rattle.reading.specs.declared.Room.{Room}
+use Rattle.reading.specs.declared.survey.Seen.{Seen}
+use Rattle.reading.specs.declared.survey.Room.{Room}
 use Rattle.reading.proofs.Sofar.{behind, nothing-yet, further}
 use Rattle.reading.proofs.Roots.{document-onward, roots-end, roots-odd, roots-document}
 

@@ -20,7 +20,7 @@ use Rattle.elements.specs.Grammar.{Parsed, read, broken, deep}
 use Rattle.elements.specs.Questions.{placeIn, messagesIn}
 use Rattle.reading.specs.Meaning.{placesIn, bulkIn, bulksIn, sheetIn, allCountable}
 use Rattle.reading.specs.Survey.{needed}
-use Rattle.reading.specs.declared.Put.{Put}
+use Rattle.reading.specs.declared.filling.Put.{Put}
 
 -- ---- notes
 

@@ -14,10 +14,10 @@ use Rattle.elements.specs.Notes.{tooMany, stepOf}
 use Rattle.elements.specs.Questions.{firstLack, messagesIn}
 use Rattle.reading.specs.Text.{documentAt}
 use Rattle.reading.specs.Meaning.{countable, allCountable, bulksIn, fitsIn}
-use Rattle.reading.specs.declared.Seen.{Seen}
-use Rattle.reading.specs.declared.Room.{Room}
-use Rattle.reading.specs.declared.Survey.{Survey}
-use Rattle.reading.specs.declared.Survey.the-variants.{Fine, Form, Deep, Lack, Short}
+use Rattle.reading.specs.declared.survey.Seen.{Seen}
+use Rattle.reading.specs.declared.survey.Room.{Room}
+use Rattle.reading.specs.declared.survey.Survey.{Survey}
+use Rattle.reading.specs.declared.survey.Survey.the-variants.{Fine, Form, Deep, Lack, Short}
 
 -- ---- a document that was looked at
 

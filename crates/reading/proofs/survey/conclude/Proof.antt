@@ -1,8 +1,8 @@
--- `reading::conclude` meets its contract. Assumes nothing.
+-- `reading::survey::conclude` meets its contract. Assumes nothing.
 use mathlib.Core.Path.{_≡_}
 use borrow.Author.Tests.{lt-ltb, le-ltb}
-use Rattle.reading.proofs.conclude.Statement.{statement}
-use Rattle.reading.proofs.conclude.Tie as tie
+use Rattle.reading.proofs.survey.conclude.Statement.{statement}
+use Rattle.reading.proofs.survey.conclude.Tie as tie
 
 returns : tie.Need-returns
 returns c = rw (lt-ltb (c .before .args .lack) (c .before .args .end) (c .if1 .taken))

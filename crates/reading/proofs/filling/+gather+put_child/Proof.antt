@@ -1,4 +1,4 @@
--- `reading::put_child` and `reading::gather`, which call each other, meet their contracts: the measure falls as it does for an element and
+-- `reading::filling::put_child` and `reading::filling::gather`, which call each other, meet their contracts: the measure falls as it does for an element and
 -- its content. The loop: the messages so far, with those of what is left from place i on, are those of the whole. Assumes nothing.
 use mathlib.Core.Path.{_≡_, refl, sym, ap, _∙_}
 use Prim.Native.Nat.{ℕ, _+_, _-_, _*_, _<_}
@@ -13,24 +13,24 @@ use Rattle.reading.proofs.Gathers.{Gathering, gathering-starts, gatheri
 use Rattle.reading.proofs.Children.{levels-left, message-room, message-put, quiet-put, has-note, inside-ready, group-put, bare-put, faulty-put}
 use borrow.Fn.Kinds.{In}
 use borrow.Fn.PlainCycle.{Measures, is, falls, and}
-use Rattle.reading.proofs.gather.Reads as gather
-use Rattle.reading.proofs.gather.Kinds as gather-kinds
-use Rattle.reading.proofs.+gather+put_child.Lts-gather as gather-lts
-use Rattle.reading.proofs.put_child.Reads as put-child
-use Rattle.reading.proofs.put_child.Kinds as put-child-kinds
-use Rattle.reading.proofs.+gather+put_child.Lts-put_child as put-child-lts
+use Rattle.reading.proofs.filling.gather.Reads as gather
+use Rattle.reading.proofs.filling.gather.Kinds as gather-kinds
+use Rattle.reading.proofs.filling.+gather+put_child.Lts-gather as gather-lts
+use Rattle.reading.proofs.filling.put_child.Reads as put-child
+use Rattle.reading.proofs.filling.put_child.Kinds as put-child-kinds
+use Rattle.reading.proofs.filling.+gather+put_child.Lts-put_child as put-child-lts
 use Rattle.letters.proofs.byte_at.Reads as byte-at-reads
 use Rattle.paths.proofs.child_role.Reads as child-role-reads
 use Rattle.paths.proofs.is_message.Reads as is-message-reads
 use Rattle.prose.proofs.text_end.Reads as text-end-reads
-use Rattle.reading.proofs.after.Reads as after-reads
-use Rattle.reading.proofs.closed.Reads as closed-reads
-use Rattle.reading.proofs.holds.Reads as holds-reads
-use Rattle.reading.proofs.put_one.Reads as put-one-reads
+use Rattle.reading.proofs.filling.after.Reads as after-reads
+use Rattle.reading.proofs.filling.closed.Reads as closed-reads
+use Rattle.reading.proofs.filling.holds.Reads as holds-reads
+use Rattle.reading.proofs.filling.put_one.Reads as put-one-reads
 use Rattle.tags.proofs.name_at.Reads as name-at-reads
 use Rattle.tags.proofs.start.Reads as start-reads
-use Rattle.reading.proofs.+gather+put_child.{statement}
-use Rattle.reading.proofs.+gather+put_child.Tie.{close}
+use Rattle.reading.proofs.filling.+gather+put_child.{statement}
+use Rattle.reading.proofs.filling.+gather+put_child.Tie.{close}
 
 abbrev μ-gather : Measures 3 gather-kinds.ps ℕ
 μ-gather κs a = 2 * a .1 .1 .1 .1 .0 + 1

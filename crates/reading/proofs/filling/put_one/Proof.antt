@@ -1,8 +1,8 @@
--- `reading::put_one` meets its contract. Assumes nothing.
+-- `reading::filling::put_one` meets its contract. Assumes nothing.
 use mathlib.Core.Path.{_≡_, _∙_}
 use borrow.Author.Needs.{needs}
-use Rattle.reading.proofs.put_one.Statement.{statement}
-use Rattle.reading.proofs.put_one.Tie as tie
+use Rattle.reading.proofs.filling.put_one.Statement.{statement}
+use Rattle.reading.proofs.filling.put_one.Tie as tie
 
 returns : tie.Need-returns
 returns c =

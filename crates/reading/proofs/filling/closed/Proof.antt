@@ -1,8 +1,8 @@
--- `reading::closed` meets its contract. Assumes nothing.
+-- `reading::filling::closed` meets its contract. Assumes nothing.
 use mathlib.Core.Path.{_≡_, refl, sym, ap, _∙_}
 use borrow.Author.Needs.{needs}
-use Rattle.reading.proofs.closed.Statement.{statement}
-use Rattle.reading.proofs.closed.Tie as tie
+use Rattle.reading.proofs.filling.closed.Statement.{statement}
+use Rattle.reading.proofs.filling.closed.Tie as tie
 
 returns : tie.Need-returns
 returns c = rw (sym (c .before .before .before .end .ensures) ∙ c .before .n .given .1)

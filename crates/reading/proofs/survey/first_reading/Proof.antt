@@ -1,4 +1,4 @@
--- `reading::first_reading` meets its contract: what was seen so far, with what is left from place i on, comes to the whole. Assumes nothing.
+-- `reading::survey::first_reading` meets its contract: what was seen so far, with what is left from place i on, comes to the whole. Assumes nothing.
 use mathlib.Core.Path.{_≡_, refl, sym, ap, _∙_}
 use Prim.Native.Nat.{ℕ, _-_}
 use native.Mathlib.Omega.{arith}
@@ -13,8 +13,8 @@ use Rattle.reading.proofs.Looks.{looked-few, looked-read}
 use Rattle.reading.proofs.Roots.{document-onward}
 use Rattle.reading.proofs.Surveys.{Surveying, survey-starts, survey-odd, survey-stops, survey-ends, survey-on}
 use Rattle.reading.proofs.Sheets.{concludes}
-use Rattle.reading.proofs.first_reading.Statement.{statement}
-use Rattle.reading.proofs.first_reading.Tie as tie
+use Rattle.reading.proofs.survey.first_reading.Statement.{statement}
+use Rattle.reading.proofs.survey.first_reading.Tie as tie
 
 abbrev Inv-loop : tie.InvT-loop
 Inv-loop s first space i₀ lack₀ bulks₀ room₀ i lack bulks room = Surveying s space first i lack bulks room

@@ -1,8 +1,8 @@
--- `reading::after` meets its contract. Assumes nothing.
+-- `reading::filling::after` meets its contract. Assumes nothing.
 use mathlib.Core.Path.{_≡_, _∙_}
 use borrow.Author.Needs.{needs}
-use Rattle.reading.proofs.after.Statement.{statement}
-use Rattle.reading.proofs.after.Tie as tie
+use Rattle.reading.proofs.filling.after.Statement.{statement}
+use Rattle.reading.proofs.filling.after.Tie as tie
 
 returns : tie.Need-returns
 returns c = let told = c .before .before .before .read-element .ensures in (c .place-of .ensures ∙ (rw (told .0)), told .1)

@@ -1,11 +1,11 @@
--- `reading::put_document` meets its contract. Assumes nothing.
+-- `reading::filling::put_document` meets its contract. Assumes nothing.
 use mathlib.Core.Path.{_≡_, refl, sym, ap, _∙_}
 use native.Mathlib.Omega.{arith}
 use borrow.Author.Needs.{needs}
 use Rattle.reading.specs.Text.{documentAt}
 use Rattle.reading.proofs.Documents.{document-ready, messages-end, document-put}
-use Rattle.reading.proofs.put_document.Statement.{statement}
-use Rattle.reading.proofs.put_document.Tie as tie
+use Rattle.reading.proofs.filling.put_document.Statement.{statement}
+use Rattle.reading.proofs.filling.put_document.Tie as tie
 
 put-child-requires : tie.Need-put-child-requires
 put-child-requires c κs =

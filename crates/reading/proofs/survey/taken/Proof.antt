@@ -1,10 +1,10 @@
--- `reading::taken` meets its contract. Assumes nothing.
+-- `reading::survey::taken` meets its contract. Assumes nothing.
 use mathlib.Core.Path.{_≡_}
 use Prim.Native.Nat.{_+_, _-_, _*_}
 use native.Mathlib.Omega.{arith}
 use borrow.Author.Needs.{needs}
-use Rattle.reading.proofs.taken.Statement.{statement}
-use Rattle.reading.proofs.taken.Tie as tie
+use Rattle.reading.proofs.survey.taken.Statement.{statement}
+use Rattle.reading.proofs.survey.taken.Tie as tie
 
 returns : tie.Need-returns
 returns c =

@@ -1,4 +1,4 @@
--- `reading::second_reading` meets its contract: the bulks so far are written, with those of what is left they are the sheet. Assumes nothing.
+-- `reading::filling::second_reading` meets its contract: the bulks so far are written, with those of what is left they are the sheet. Assumes nothing.
 use mathlib.Core.Path.{_≡_, refl, sym, ap, _∙_}
 use Prim.Native.Nat.{ℕ, _+_, _*_, _-_}
 use native.Mathlib.Omega.{arith}
@@ -7,8 +7,8 @@ use borrow.Author.Needs.{needs}
 use Rattle.reading.specs.Text.{documentAt, rootsAt}
 use Rattle.reading.proofs.Roots.{document-onward}
 use Rattle.reading.proofs.Fillings.{Writing, writing-starts, next-document, head-room, document-placed, writing-on, writing-ends, fitting-on, headers-fit}
-use Rattle.reading.proofs.second_reading.Statement.{statement}
-use Rattle.reading.proofs.second_reading.Tie as tie
+use Rattle.reading.proofs.filling.second_reading.Statement.{statement}
+use Rattle.reading.proofs.filling.second_reading.Tie as tie
 
 abbrev Inv-loop : tie.InvT-loop
 Inv-loop d₀ s first bulks i₀ h₀ m₀ d i h m = (length d ≡ length d₀) × Writing s first bulks i h m d₀ d
