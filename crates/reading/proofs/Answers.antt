@@ -1,8 +1,8 @@
 -- What the first reading tells decides the outcome. Assumes nothing.
-use mathlib.Core.Path.{_≡_, refl, sym, ap, _∙_}
-use mathlib.Core.Bool.{Bool, true, false, cond, _&&_, false≢true}
+use mathlib.Core.Path.{_≡_, refl}
+use mathlib.Core.Bool.{Bool, true, false, cond, _&&_}
 use mathlib.Core.List.{List}
-use Prim.Native.Nat.{ℕ, _+_, _≤_, _<_}
+use Prim.Native.Nat.{ℕ, _≤_, _<_}
 use native.Mathlib.Omega.{arith}
 use lib.Dec.{leb, ltb}
 use lib.ListN.{length}
@@ -13,7 +13,7 @@ use Rattle.elements.specs.Grammar.{Parsed, read, broken, deep}
 use Rattle.elements.specs.Questions.{firstLack}
 use Rattle.reading.specs.Text.{rootsAt, someRoots}
 use Rattle.reading.specs.Meaning.{bulksIn, sheetIn, countable, allCountable, fitsIn}
-use Rattle.reading.specs.Survey.{needed, concluded, surveyOf}
+use Rattle.reading.specs.Survey.{surveyOf}
 use Rattle.reading.specs.Filling.{Fitting, PutSheet}
 use Rattle.reading.specs.Reading.{outcome, outcomeOf, answered, whenMade}
 use Rattle.reading.specs.declared.survey.Survey.{Survey}

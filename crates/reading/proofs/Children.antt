@@ -1,28 +1,27 @@
 -- The second reading of one element: a message, something in which there is none, or a group that may hold some. Assumes nothing.
 use mathlib.Core.Path.{_≡_, refl, sym, ap, _∙_}
-use mathlib.Core.Bool.{Bool, true, false, cond, not, _&&_, _||_, false≢true}
-use mathlib.Core.List.{List, [], _∷_, _++_, append-nil}
-use Prim.Native.Nat.{ℕ, zero, suc, _+_, _-_, _*_, _≤_, _<_}
+use mathlib.Core.Bool.{Bool, true, false, cond, not, _||_, false≢true}
+use mathlib.Core.List.{List, [], _∷_, append-nil}
+use Prim.Native.Nat.{ℕ, _+_, _-_, _*_, _≤_, _<_}
 use native.Mathlib.Omega.{arith}
 use lib.Dec.{eqb, ltb}
 use lib.ListN.{length, getD, set}
 use lib.Seq.{sets}
-use borrow.Author.Tests.{eqb-true, eqb-false, ne-eqb}
+use borrow.Author.Tests.{eqb-true}
 use Rattle.letters.specs.Places.{byteAt}
-use Rattle.letters.specs.declared.Reach.{Reach}
-use Rattle.letters.specs.declared.Reach.the-variants.{To, Broken}
+use Rattle.letters.specs.declared.Reach.the-variants.{To}
 use Rattle.tags.specs.Names.{nameStart}
 use Rattle.tags.specs.Tags.{startAt, endAt}
 use Rattle.tags.specs.declared.Tag.the-variants.{Open, Empty, Faulty}
 use Rattle.paths.specs.Roles as roles
 use Rattle.records.specs.Records.{messageOf}
 use Rattle.elements.specs.Forest.{Forest, none, tree}
-use Rattle.elements.specs.Grammar.{Parsed, read, broken, deep, onRead, onReached, whole, groupAt, elementAt, contentAt}
+use Rattle.elements.specs.Grammar.{Parsed, read, broken, deep, onReached, whole, groupAt, elementAt, contentAt}
 use Rattle.elements.specs.Notes.{stepOf, noted, notesOf}
 use Rattle.elements.specs.Questions.{messagesIn}
-use Rattle.elements.proofs.Forward.{Went, went, Reached, reached}
+use Rattle.elements.proofs.Forward.{went, reached}
 use Rattle.elements.proofs.Elements.{element-group}
-use Rattle.elements.proofs.Calm.{Held, element-held, element-quiet}
+use Rattle.elements.proofs.Calm.{element-held, element-quiet}
 use Rattle.reading.specs.Filling.{messageBytes, forgotten, Ready, Filled, HeaderNoted, placeOf, reachedPlace, busy}
 use Rattle.reading.specs.declared.filling.Put.{Put}
 use Rattle.reading.proofs.Carrying.{carried-none, carried-group, carried-noted, message-own, message-carried}

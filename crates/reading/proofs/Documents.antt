@@ -1,21 +1,20 @@
 -- The second reading of a document: its messages, its header, and how many messages there are. Assumes nothing.
 use mathlib.Core.Path.{_≡_, refl, sym, ap, _∙_}
 use mathlib.Core.List.{List}
-use Prim.Native.Nat.{ℕ, zero, suc, _+_, _-_, _*_, _/_, _≤_, _<_}
+use Prim.Native.Nat.{ℕ, zero, suc, _+_, _-_, _*_, _/_}
 use native.Mathlib.Omega.{arith}
 use lib.ListN.{length, getD, replicate}
 use lib.Seq.{sets}
 use Rattle.wire.specs.Field.{bytesOf}
 use Rattle.wire.proofs.Numbers.{bytes-length}
 use Rattle.wire.proofs.Stores.{sets-then, sets-swap}
-use Rattle.paths.specs.Roles as roles
 use Rattle.records.specs.Records.{headerOf}
 use Rattle.records.proofs.Laws.{header-length}
 use Rattle.elements.specs.Forest.{Forest}
 use Rattle.elements.specs.Grammar.{Parsed, read}
 use Rattle.elements.specs.Questions.{placeIn, messagesIn}
 use Rattle.reading.specs.Meaning.{placesIn, bulkIn}
-use Rattle.reading.specs.Filling.{messagesBytes, section, Ready, Filled, HeaderNoted, Placed, PutWhole}
+use Rattle.reading.specs.Filling.{messagesBytes, Ready, Filled, HeaderNoted, Placed, PutWhole}
 use Rattle.reading.specs.declared.filling.Put.{Put}
 use Rattle.reading.proofs.Carrying.{header-alike}
 use Rattle.reading.proofs.Sheets.{map-length}

@@ -1,38 +1,33 @@
 -- The sheet, written one document after the other: headers in front, sections behind. Assumes nothing.
 use mathlib.Core.Path.{_≡_, refl, sym, ap, _∙_}
-use mathlib.Core.Bool.{Bool, true, false, cond, _&&_, false≢true}
-use mathlib.Core.List.{List, [], _∷_, _++_, map, append-assoc, append-nil}
-use Prim.Native.Nat.{ℕ, zero, suc, _+_, _*_, _≤_, _<_, min}
+use mathlib.Core.Bool.{Bool, true, false}
+use mathlib.Core.List.{List, [], _∷_, _++_, append-assoc, append-nil}
+use Prim.Native.Nat.{ℕ, _+_, _*_, _≤_, _<_}
 use native.Mathlib.Omega.{arith}
 use lib.Dec.{eqb}
 use lib.ListN.{length, length-append}
 use lib.Seq.{sets, length-sets}
-use borrow.Author.Tests.{eqb-true, eqb-false, ltb-true}
+use borrow.Author.Tests.{eqb-true, eqb-false}
 use Rattle.wire.specs.Field.{bytesOf}
-use Rattle.wire.specs.Written.{joined}
 use Rattle.wire.proofs.Numbers.{bytes-length}
 use Rattle.wire.proofs.Stores.{sets-then, sets-swap}
 use Rattle.letters.specs.Places.{byteAt}
-use Rattle.tags.specs.Names.{spaceEnd, nameAt}
-use Rattle.paths.specs.Table.{rootRole}
+use Rattle.tags.specs.Names.{spaceEnd}
 use Rattle.sheet.specs.Sheet.{Bulk}
-use Rattle.records.specs.Records.{headerOf}
 use Rattle.records.proofs.Laws.{header-length}
-use Rattle.elements.specs.Forest.{Forest, none, tree, beside}
-use Rattle.elements.specs.Grammar.{Parsed, read, broken, deep, onRead}
-use Rattle.elements.specs.Notes.{tooMany}
+use Rattle.elements.specs.Forest.{Forest, none, beside}
+use Rattle.elements.specs.Grammar.{Parsed, read, broken, deep}
 use Rattle.elements.specs.Questions.{messagesIn}
 use Rattle.elements.proofs.Forests.{beside-none}
-use Rattle.elements.proofs.Forward.{Went, went}
+use Rattle.elements.proofs.Forward.{went}
 use Rattle.reading.specs.Text.{documentAt, rootsAt}
-use Rattle.reading.specs.Meaning.{placesIn, bulkIn, bulksIn, sheetIn, countable, allCountable}
-use Rattle.reading.specs.Filling.{section, Ready, Placed, PutWhole, Fitting, PutSheet}
-use Rattle.reading.specs.Survey.{needed}
+use Rattle.reading.specs.Meaning.{placesIn, bulkIn, bulksIn, allCountable}
+use Rattle.reading.specs.Filling.{section, Placed, PutWhole, Fitting, PutSheet}
 use Rattle.reading.specs.declared.filling.Put.{Put}
 use Rattle.reading.proofs.Roots.{roots-end, roots-odd, roots-document}
-use Rattle.reading.proofs.Surveys.{Root, root-told, bulks-beside, countable-beside}
+use Rattle.reading.proofs.Surveys.{Root, root-told, bulks-beside}
 use Rattle.reading.proofs.Sofar.{behind, nothing-yet, further}
-use Rattle.reading.proofs.Sheets.{headers, sections, both, section-length, headers-length, parts-length, sheet-length}
+use Rattle.reading.proofs.Sheets.{headers, sections, section-length, headers-length, parts-length, sheet-length}
 
 -- ---- bulks one after the other
 

@@ -1,8 +1,7 @@
 -- The second reading: the messages of a content, one child after the other. Assumes nothing.
 use mathlib.Core.Path.{_≡_, refl, sym, ap, _∙_}
-use mathlib.Core.Bool.{Bool, true, false, cond, not, _&&_, _||_, false≢true}
-use mathlib.Core.List.{List, [], _∷_, _++_, map, append-assoc, append-nil}
-use Prim.Native.Nat.{ℕ, zero, suc, _+_, _*_, _≤_, _<_}
+use mathlib.Core.List.{List, [], _∷_, _++_, map, append-assoc}
+use Prim.Native.Nat.{ℕ, _+_, _*_}
 use native.Mathlib.Omega.{arith}
 use lib.ListN.{length, length-append}
 use lib.Seq.{sets, length-sets}
@@ -13,17 +12,16 @@ use Rattle.letters.specs.declared.Reach.the-variants.{To, Broken}
 use Rattle.tags.specs.Names.{nameAt}
 use Rattle.prose.specs.Prose.{textAt}
 use Rattle.paths.specs.Table.{childRole}
-use Rattle.records.proofs.Laws.{message-length}
-use Rattle.elements.specs.Forest.{Forest, none, tree, beside}
+use Rattle.elements.specs.Forest.{Forest, none, beside}
 use Rattle.elements.specs.Grammar.{Parsed, read, broken, deep, onRead, contentBy}
 use Rattle.elements.specs.Questions.{messagesIn}
 use Rattle.elements.proofs.Forests.{beside-none}
-use Rattle.elements.proofs.Forward.{Went, went, Onward, content-broken, content-ends, content-child}
+use Rattle.elements.proofs.Forward.{went, Onward, content-broken, content-ends, content-child}
 use Rattle.elements.proofs.Calm.{messages-beside}
-use Rattle.reading.specs.Meaning.{placesIn}
 use Rattle.reading.specs.Filling.{messageBytes, messagesBytes, Carried, Ready, Filled, HeaderNoted}
 use Rattle.reading.specs.declared.filling.Put.{Put}
 use Rattle.reading.proofs.Sofar.{behind, nothing-yet, further}
+use Rattle.reading.proofs.Sheets.{messages-length}
 use Rattle.reading.proofs.Carrying.{carried-none, carried-on}
 
 -- ---- messages written one after the other
@@ -31,12 +29,6 @@ use Rattle.reading.proofs.Carrying.{carried-none, carried-on}
 join-append : (s : List ℕ) (ms ns : List Forest) → joined (map (λ (m : Forest). messageBytes s m) (ms ++ ns)) ≡ joined (map (λ (m : Forest). messageBytes s m) ms) ++ joined (map (λ (m : Forest). messageBytes s m) ns)
 join-append s [] ns = refl
 join-append s (m ∷ ms) ns = ap (λ (r : List ℕ). messageBytes s m ++ r) (join-append s ms ns) ∙ sym (append-assoc (messageBytes s m) (joined (map (λ (m : Forest). messageBytes s m) ms)) (joined (map (λ (m : Forest). messageBytes s m) ns)))
-
-join-length : (s : List ℕ) (ms : List Forest) → length (joined (map (λ (m : Forest). messageBytes s m) ms)) ≡ 81 * length ms
-join-length s [] = refl
-join-length s (m ∷ ms) =
-    length-append (messageBytes s m) (joined (map (λ (m : Forest). messageBytes s m) ms))
-    ∙ (let first = message-length s (placesIn m) in let others = join-length s ms in omega arith)
 
 module _ (s : List ℕ) (f g : Forest) where
   pub many-beside : length (messagesIn (beside f g)) ≡ length (messagesIn f) + length (messagesIn g)
@@ -47,7 +39,7 @@ module _ (s : List ℕ) (f g : Forest) where
 
   -- those of the second after those of the first
   pub written-beside : (d : List ℕ) (at : ℕ) → sets (sets d at (messagesBytes s f)) (at + 81 * length (messagesIn f)) (messagesBytes s g) ≡ sets d at (messagesBytes s (beside f g))
-  written-beside d at = sets-then d at (81 * length (messagesIn f)) (messagesBytes s f) (messagesBytes s g) (join-length s (messagesIn f)) ∙ ap (sets d at) (sym bytes-beside)
+  written-beside d at = sets-then d at (81 * length (messagesIn f)) (messagesBytes s f) (messagesBytes s g) (messages-length s (messagesIn f)) ∙ ap (sets d at) (sym bytes-beside)
 
 -- ---- the loop
 

@@ -1,16 +1,14 @@
 -- What is noted of a document is what was asked of it. Assumes nothing.
-use mathlib.Core.Path.{_≡_, refl, sym, ap, _∙_}
+use mathlib.Core.Path.{_≡_, refl, ap, _∙_}
 use mathlib.Core.List.{List}
-use Prim.Native.Nat.{ℕ, _+_, _≤_, min}
+use Prim.Native.Nat.{ℕ, _≤_}
 use native.Mathlib.Omega.{arith}
-use lib.ListN.{length, getD, set, replicate, length-set}
-use Rattle.elements.specs.declared.Step.{Step}
+use lib.ListN.{getD, set, replicate}
 use Rattle.elements.specs.Forest.{Forest}
 use Rattle.elements.specs.Grammar.{Parsed, read, broken, deep}
-use Rattle.elements.specs.Notes.{noted, notesOf, tooMany}
-use Rattle.elements.specs.Questions.{firstLack, messagesIn}
+use Rattle.elements.specs.Notes.{notesOf, tooMany}
 use Rattle.elements.proofs.Noting.{noted-lack, noted-messages}
-use Rattle.reading.specs.Survey.{Looked, messageCount}
+use Rattle.reading.specs.Survey.{Looked}
 use Rattle.reading.specs.declared.survey.Seen.{Seen}
 
 -- notes that are empty but for the place before which something lacks

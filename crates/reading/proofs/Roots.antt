@@ -1,5 +1,5 @@
 -- The documents one after the other: the bound on their number never shows. Assumes nothing.
-use mathlib.Core.Path.{_≡_, refl, sym, ap, _∙_}
+use mathlib.Core.Path.{_≡_, refl, ap, _∙_}
 use mathlib.Core.Bool.{Bool, true, false, cond}
 use mathlib.Core.List.{List}
 use Prim.Native.Nat.{ℕ, zero, suc, _+_, _≤_, _<_}
@@ -9,9 +9,8 @@ use lib.ListN.{length}
 use borrow.Author.Tests.{eq-eqb, ne-eqb, lt-ltb, le-ltb, ltb-true}
 use Rattle.letters.specs.Places.{byteAt}
 use Rattle.tags.specs.Names.{spaceEnd, nameAt}
-use Rattle.paths.specs.Roles as roles
 use Rattle.paths.specs.Table.{rootRole}
-use Rattle.elements.specs.Forest.{Forest, none, tree, beside}
+use Rattle.elements.specs.Forest.{Forest, none, beside}
 use Rattle.elements.specs.Grammar.{Parsed, read, broken, deep, onRead}
 use Rattle.elements.proofs.Forward.{element-onward}
 use Rattle.reading.specs.Text.{levels, documentAt, rootsBy, rootsAt}

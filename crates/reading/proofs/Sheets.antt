@@ -1,17 +1,16 @@
 -- How long the sheet is that documents mean. Assumes nothing.
-use mathlib.Core.Path.{_≡_, refl, sym, ap, _∙_}
+use mathlib.Core.Path.{_≡_, refl, ap, _∙_}
 use mathlib.Core.Bool.{Bool, true, false, cond, not, _&&_, _||_, false≢true}
 use mathlib.Core.List.{List, [], _∷_, _++_, map}
-use Prim.Native.Nat.{ℕ, zero, suc, _+_, _*_, _≤_, _<_, min}
+use Prim.Native.Nat.{ℕ, suc, _+_, _*_, min}
 use native.Mathlib.Omega.{arith}
 use lib.Dec.{leb, ltb}
 use lib.ListN.{length, length-append}
-use borrow.Author.Tests.{ltb-true, ltb-false, lt-ltb, le-ltb}
+use borrow.Author.Tests.{ltb-true}
 use Rattle.wire.specs.Field.{bytesOf}
 use Rattle.wire.specs.Written.{joined}
 use Rattle.wire.proofs.Numbers.{bytes-length}
 use Rattle.sheet.specs.Sheet.{countWidth, Bulk}
-use Rattle.sheet.specs.Written.{sheetBytes}
 use Rattle.records.specs.Records.{headerOf, messageOf}
 use Rattle.records.proofs.Laws.{header-length, message-length}
 use Rattle.elements.specs.Forest.{Forest, none, tree}
@@ -19,9 +18,9 @@ use Rattle.elements.specs.Notes.{tooMany}
 use Rattle.elements.specs.Questions.{messagesIn}
 use Rattle.reading.specs.Meaning.{placesIn, bulkIn, bulksIn, sheetIn, countable, allCountable, fitsIn}
 use Rattle.reading.specs.Filling.{section}
-use Rattle.reading.specs.Survey.{messageCount, cost, needed, enough, concluded}
+use Rattle.reading.specs.Survey.{needed, enough}
 use Rattle.reading.specs.declared.survey.Survey.{Survey}
-use Rattle.reading.specs.declared.survey.Survey.the-variants.{Fine, Form, Deep, Lack, Short}
+use Rattle.reading.specs.declared.survey.Survey.the-variants.{Fine, Lack, Short}
 
 -- ---- parts of a sheet
 
@@ -33,7 +32,7 @@ sections bulks = joined (map section bulks)
 
 -- ---- their lengths
 
-messages-length : (s : List ℕ) (ms : List Forest) → length (joined (map (λ (m : Forest). messageOf s (placesIn m)) ms)) ≡ 81 * length ms
+pub messages-length : (s : List ℕ) (ms : List Forest) → length (joined (map (λ (m : Forest). messageOf s (placesIn m)) ms)) ≡ 81 * length ms
 messages-length s [] = refl
 messages-length s (m ∷ ms) =
     length-append (messageOf s (placesIn m)) (joined (map (λ (m : Forest). messageOf s (placesIn m)) ms))

@@ -1,26 +1,26 @@
 -- The first reading: what was seen of the documents so far, with what is still to be read, comes to the whole. Assumes nothing.
 use mathlib.Core.Path.{_≡_, refl, sym, ap, _∙_}
 use mathlib.Core.Bool.{Bool, true, false, cond, not, _&&_, _||_}
-use mathlib.Core.List.{List, [], _∷_, _++_}
-use Prim.Native.Nat.{ℕ, zero, suc, _+_, _-_, _*_, _≤_, _<_, min}
+use mathlib.Core.List.{List, _∷_, _++_}
+use Prim.Native.Nat.{ℕ, _+_, _-_, _≤_, _<_, min}
 use native.Mathlib.Omega.{arith}
-use lib.Dec.{eqb, leb, ltb}
+use lib.Dec.{leb, ltb}
 use lib.ListN.{length, length-append}
-use borrow.Author.Tests.{le-leb, lt-leb, leb-true, leb-false, lt-ltb, le-ltb, ltb-true, ltb-false}
+use borrow.Author.Tests.{lt-leb, leb-true, leb-false, lt-ltb, le-ltb, ltb-true, ltb-false}
 use Rattle.letters.specs.Places.{byteAt}
 use Rattle.wire.specs.Field.{text, same}
 use Rattle.tags.specs.Names.{spaceEnd, nameAt}
 use Rattle.paths.specs.Roles as roles
 use Rattle.paths.specs.Table.{rootRole, lacks}
 use Rattle.elements.specs.Forest.{Forest, none, tree, beside, countOf}
-use Rattle.elements.specs.Grammar.{Parsed, read, broken, deep, onRead}
+use Rattle.elements.specs.Grammar.{Parsed, read, broken, onRead}
 use Rattle.elements.specs.Notes.{tooMany}
 use Rattle.elements.specs.Questions.{firstLack, messagesIn}
 use Rattle.elements.proofs.Forests.{beside-none}
 use Rattle.elements.proofs.Forward.{Shape, stepped, one, element-told}
 use Rattle.reading.specs.Text.{levels, documentAt, rootsAt}
-use Rattle.reading.specs.Meaning.{bulkIn, bulksIn, countable, allCountable, fitsIn}
-use Rattle.reading.specs.Survey.{messageCount, Looked, cost, needed, enough, takenOf, concluded, surveyOf}
+use Rattle.reading.specs.Meaning.{bulkIn, bulksIn, countable, allCountable}
+use Rattle.reading.specs.Survey.{messageCount, Looked, cost, needed, enough, takenOf}
 use Rattle.reading.specs.declared.survey.Seen.{Seen}
 use Rattle.reading.specs.declared.survey.Room.{Room}
 use Rattle.reading.proofs.Sofar.{behind, nothing-yet, further}

@@ -1,18 +1,14 @@
 -- What the functions of the reader tell on the way. Assumes nothing.
-use Prim.Native.Nat.{ℕ, _+_, _*_, _-_, _<_, _≤_, min}
+use Prim.Native.Nat.{ℕ, _+_, _*_, _-_, min}
 use mathlib.Core.Path.{_≡_}
-use mathlib.Core.Bool.{Bool, true, false, cond, not, _&&_, _||_}
+use mathlib.Core.Bool.{Bool, cond, not, _&&_, _||_}
 use mathlib.Core.List.{List}
 use lib.ListN.{length}
 use lib.Dec.{leb, ltb}
-use Rattle.tags.specs.Names.{nameAt}
-use Rattle.paths.specs.Table.{rootRole}
-use Rattle.elements.specs.declared.Step.{Step}
 use Rattle.elements.specs.Forest.{Forest, none, tree}
-use Rattle.elements.specs.Grammar.{Parsed, read, broken, deep, elementAt}
-use Rattle.elements.specs.Notes.{tooMany, stepOf}
+use Rattle.elements.specs.Grammar.{Parsed, read, broken, deep}
+use Rattle.elements.specs.Notes.{tooMany}
 use Rattle.elements.specs.Questions.{firstLack, messagesIn}
-use Rattle.reading.specs.Text.{documentAt}
 use Rattle.reading.specs.Meaning.{countable, allCountable, bulksIn, fitsIn}
 use Rattle.reading.specs.declared.survey.Seen.{Seen}
 use Rattle.reading.specs.declared.survey.Room.{Room}

@@ -29,7 +29,7 @@ fn place_of(step: Step) -> usize
     }
 }
 
-// The place after an element in which there is no message.
+// Reads an element that holds no other message, notes it, and tells the place after it.
 fn after(s: &[u8], j: usize, depth: usize, role: usize, notes: &mut [usize]) -> usize
     ensures next { λ r. ⌜ r ≡ placeOf (stepOf (elementAt depth (now (s .entry)) role j)) ⌝ }
     ensures notes { λ _. ⌜ now (notes .exit) ≡ notesOf (elementAt depth (now (s .entry)) role j) (now (notes .entry)) ⌝ }

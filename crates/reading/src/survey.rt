@@ -40,13 +40,13 @@ fn look(s: &[u8], at: usize, lack: usize) -> Seen
     ensures told { λ r. ⌜ Looked (documentAt (now (s .entry)) at) lack r ⌝ }
 {
     let mut notes = [0usize; 36];
-    notes[34] = lack;
+    notes[elements::LACK] = lack;
     let role = paths::root_role(tags::name_at(s, at + 1));
     let step = elements::read_element(s, at, elements::LEVELS, role, &mut notes);
     Seen {
         step,
-        lack: notes[34],
-        messages: notes[35],
+        lack: notes[elements::LACK],
+        messages: notes[elements::MESSAGES],
     }
 }
 

@@ -1,5 +1,5 @@
 -- `reading::from` meets its contract. Assumes nothing.
-use mathlib.Core.Path.{_≡_, refl, sym, ap, _∙_}
+use mathlib.Core.Path.{sym, _∙_}
 use borrow.Author.Needs.{needs}
 use Rattle.reading.specs.Text.{rootsAt}
 use Rattle.reading.proofs.Answers.{fine-fits, fine-made, form-told, deep-told, lack-told, short-told, no-document, some-documents}

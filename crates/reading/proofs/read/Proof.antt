@@ -1,5 +1,5 @@
 -- `reading::read` meets its contract. Assumes nothing.
-use mathlib.Core.Path.{_≡_, refl, sym, ap, _∙_}
+use mathlib.Core.Path.{sym, _∙_}
 use borrow.Author.Needs.{needs}
 use Rattle.reading.specs.Text.{parsed}
 use Rattle.reading.specs.Reading.{reads}

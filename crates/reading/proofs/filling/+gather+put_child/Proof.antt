@@ -1,6 +1,6 @@
 -- `reading::filling::put_child` and `reading::filling::gather`, which call each other, meet their contracts: the measure falls as it does for an element and
 -- its content. The loop: the messages so far, with those of what is left from place i on, are those of the whole. Assumes nothing.
-use mathlib.Core.Path.{_≡_, refl, sym, ap, _∙_}
+use mathlib.Core.Path.{_≡_, refl, sym, _∙_}
 use Prim.Native.Nat.{ℕ, _+_, _-_, _*_, _<_}
 use native.Mathlib.Omega.{arith}
 use lib.ListN.{length}

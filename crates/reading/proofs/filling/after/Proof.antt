@@ -1,5 +1,5 @@
 -- `reading::filling::after` meets its contract. Assumes nothing.
-use mathlib.Core.Path.{_≡_, _∙_}
+use mathlib.Core.Path.{_∙_}
 use borrow.Author.Needs.{needs}
 use Rattle.reading.proofs.filling.after.Statement.{statement}
 use Rattle.reading.proofs.filling.after.Tie as tie

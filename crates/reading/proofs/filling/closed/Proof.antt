@@ -1,5 +1,5 @@
 -- `reading::filling::closed` meets its contract. Assumes nothing.
-use mathlib.Core.Path.{_≡_, refl, sym, ap, _∙_}
+use mathlib.Core.Path.{sym, _∙_}
 use borrow.Author.Needs.{needs}
 use Rattle.reading.proofs.filling.closed.Statement.{statement}
 use Rattle.reading.proofs.filling.closed.Tie as tie

@@ -1,5 +1,5 @@
 -- `reading::filling::put_one` meets its contract. Assumes nothing.
-use mathlib.Core.Path.{_≡_, _∙_}
+use mathlib.Core.Path.{_∙_}
 use borrow.Author.Needs.{needs}
 use Rattle.reading.proofs.filling.put_one.Statement.{statement}
 use Rattle.reading.proofs.filling.put_one.Tie as tie

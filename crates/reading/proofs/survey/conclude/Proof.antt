@@ -1,5 +1,4 @@
 -- `reading::survey::conclude` meets its contract. Assumes nothing.
-use mathlib.Core.Path.{_≡_}
 use borrow.Author.Tests.{lt-ltb, le-ltb}
 use Rattle.reading.proofs.survey.conclude.Statement.{statement}
 use Rattle.reading.proofs.survey.conclude.Tie as tie

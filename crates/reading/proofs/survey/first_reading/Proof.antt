@@ -1,13 +1,12 @@
 -- `reading::survey::first_reading` meets its contract: what was seen so far, with what is left from place i on, comes to the whole. Assumes nothing.
-use mathlib.Core.Path.{_≡_, refl, sym, ap, _∙_}
-use Prim.Native.Nat.{ℕ, _-_}
+use mathlib.Core.Path.{refl, sym, _∙_}
+use Prim.Native.Nat.{_-_}
 use native.Mathlib.Omega.{arith}
 use lib.ListN.{length}
 use borrow.Author.Needs.{needs}
-use Rattle.elements.specs.Grammar.{Parsed, read, broken, deep}
+use Rattle.elements.specs.Grammar.{broken, deep}
 use Rattle.elements.proofs.Contents.{done-read, form-broken, deep-deep}
 use Rattle.reading.specs.Text.{documentAt}
-use Rattle.reading.specs.Survey.{Looked}
 use Rattle.elements.specs.Questions.{firstLack}
 use Rattle.reading.proofs.Looks.{looked-few, looked-read}
 use Rattle.reading.proofs.Roots.{document-onward}

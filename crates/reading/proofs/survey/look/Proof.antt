@@ -1,5 +1,5 @@
 -- `reading::survey::look` meets its contract. Assumes nothing.
-use mathlib.Core.Path.{_≡_, refl, sym, _∙_}
+use mathlib.Core.Path.{refl}
 use borrow.Author.Needs.{needs}
 use Rattle.elements.specs.Grammar.{elementAt}
 use Rattle.reading.proofs.Looks.{looked}
