@@ -192,10 +192,13 @@ pub fn attribute(s: &[u8], at: usize) -> Reach
     }
 }
 
-// Whether an attribute from place from on has the name that stands at place at, before that place.
+// Whether an attribute from place from on has the name that stands at place at, before that place. Before the first there is none.
 fn named(s: &[u8], from: usize, at: usize) -> bool
     ensures { λ r. ⌜ r ≡ named (now (s .entry)) from at ⌝ }
 {
+    if at <= space_end(s, from) {
+        return false;
+    }
     let name = name_at(s, at);
     let mut i = from;
     loop {
@@ -373,7 +376,8 @@ fn attributed(s: &[u8], at: usize, to: usize) -> Tag
     }
 }
 
-// A start tag whose name ends at place to. Most have no attributes, and are done there.
+// A start tag whose name ends at place to. Most have no attributes, and are done there; what others need stands apart, so that
+// this is small enough for the compiler to put it where it is called.
 pub fn start_from(s: &[u8], at: usize, to: usize) -> Tag
     requires { ⌜ to ≡ nameEnd (now s) (at + 1) ⌝ }
     ensures { λ r. ⌜ r ≡ startAt (now (s .entry)) at ⌝ }
@@ -386,13 +390,14 @@ pub fn start_from(s: &[u8], at: usize, to: usize) -> Tag
     attributed(s, at, to)
 }
 
+// A start tag, of which nothing is known yet.
 pub fn start(s: &[u8], at: usize) -> Tag
     ensures { λ r. ⌜ r ≡ startAt (now (s .entry)) at ⌝ }
 {
     if s.len() <= at {
         return Tag::Faulty(at);
     }
-    start_from(s, at, name_end(s, at + 1))
+    attributed(s, at, name_end(s, at + 1))
 }
 
 // Spaces or none, and what ends an end tag.

@@ -27,46 +27,52 @@ abbrev μ-loop : tie.MeasureT-loop
 
 returns : tie.Need-returns Inv-loop μ-loop
 returns c =
-    let args = c .before .before .before .before .before .args in
-    let loop = c .before .before .loop in
+    let args = c .before .before .before .args in
     let s = args .s .now in
-    some-past (alike s (args .at)) s (args .at) (loop .i) (c .before .space-end .result) (c .before .space-end .ensures) (c .if1 .taken) ∙ loop .inv
+    some-past (alike s (args .at)) s (args .at) (args .from) (c .before .space-end .result) (c .before .space-end .ensures) (c .if1 .taken)
 
 returns-2 : tie.Need-returns-2 Inv-loop μ-loop
 returns-2 c =
-    let args = c .before .before .before .before .before .before .before .before .args in
-    let loop = c .before .before .before .before .before .loop in
-    let space-end = c .before .before .before .before .space-end in
+    let args = c .before .before .before .before .before .before .before .args in
+    let loop = c .before .before .loop in
     let s = args .s .now in
-    some-here (alike s (args .at)) s (args .at) (loop .i) (space-end .result) (space-end .ensures) (c .before .before .before .if1 .left)
-    (sym (c .before .same .ensures ∙ ap₂ same (c .before .before .name-at2 .ensures) (c .before .before .before .before .before .before .name-at .ensures)) ∙ c .if2 .taken)
+    some-past (alike s (args .at)) s (args .at) (loop .i) (c .before .space-end2 .result) (c .before .space-end2 .ensures) (c .if2 .taken) ∙ loop .inv
+
+returns-3 : tie.Need-returns-3 Inv-loop μ-loop
+returns-3 c =
+    let args = c .before .before .before .before .before .before .before .before .before .before .args in
+    let loop = c .before .before .before .before .before .loop in
+    let space-end2 = c .before .before .before .before .space-end2 in
+    let s = args .s .now in
+    some-here (alike s (args .at)) s (args .at) (loop .i) (space-end2 .result) (space-end2 .ensures) (c .before .before .before .if2 .left)
+    (sym (c .before .same .ensures ∙ ap₂ same (c .before .before .name-at2 .ensures) (c .before .before .before .before .before .before .name-at .ensures)) ∙ c .if3 .taken)
     ∙ loop .inv
 
 loop-less : tie.Need-loop-less Inv-loop μ-loop
 loop-less c =
-    let space-end = c .before .before .before .before .before .before .before .before .space-end in
-    let on = attribute-forward (c .before .before .before .before .before .before .before .before .before .before .before .before .args .s .now) (space-end .result) (c .before .n .given .0 .0) (sym (c .before .before .before .attribute .ensures) ∙ c .before .n .given .1) in
-    omega (arith, space-end .ensures)
+    let space-end2 = c .before .before .before .before .before .before .before .before .space-end2 in
+    let on = attribute-forward (c .before .before .before .before .before .before .before .before .before .before .before .before .before .before .args .s .now) (space-end2 .result) (c .before .n .given .0 .0) (sym (c .before .before .before .attribute .ensures) ∙ c .before .n .given .1) in
+    omega (arith, space-end2 .ensures)
 
 loop-again : tie.Need-loop-again Inv-loop μ-loop
 loop-again c =
-    let args = c .before .before .before .before .before .before .before .before .before .before .before .before .args in
+    let args = c .before .before .before .before .before .before .before .before .before .before .before .before .before .before .args in
     let loop = c .before .before .before .before .before .before .before .before .before .loop in
-    let space-end = c .before .before .before .before .before .before .before .before .space-end in
+    let space-end2 = c .before .before .before .before .before .before .before .before .space-end2 in
     let s = args .s .now in
-    some-more (alike s (args .at)) s (args .at) (loop .i) (space-end .result) (space-end .ensures) (c .before .before .before .before .before .before .before .if1 .left)
-    (sym (c .before .before .before .before .before .same .ensures ∙ ap₂ same (c .before .before .before .before .before .before .name-at2 .ensures) (c .before .before .before .before .before .before .before .before .before .before .name-at .ensures)) ∙ c .before .before .before .before .if2 .left)
+    some-more (alike s (args .at)) s (args .at) (loop .i) (space-end2 .result) (space-end2 .ensures) (c .before .before .before .before .before .before .before .if2 .left)
+    (sym (c .before .before .before .before .before .same .ensures ∙ ap₂ same (c .before .before .before .before .before .before .name-at2 .ensures) (c .before .before .before .before .before .before .before .before .before .before .name-at .ensures)) ∙ c .before .before .before .before .if3 .left)
     (To (c .before .n .given .0 .0)) (sym (c .before .before .before .attribute .ensures) ∙ c .before .n .given .1)
     ∙ loop .inv
 
-returns-3 : tie.Need-returns-3 Inv-loop μ-loop
-returns-3 c =
-    let args = c .before .before .before .before .before .before .before .before .before .before .before .args in
+returns-4 : tie.Need-returns-4 Inv-loop μ-loop
+returns-4 c =
+    let args = c .before .before .before .before .before .before .before .before .before .before .before .before .before .args in
     let loop = c .before .before .before .before .before .before .before .before .loop in
-    let space-end = c .before .before .before .before .before .before .before .space-end in
+    let space-end2 = c .before .before .before .before .before .before .before .space-end2 in
     let s = args .s .now in
-    some-more (alike s (args .at)) s (args .at) (loop .i) (space-end .result) (space-end .ensures) (c .before .before .before .before .before .before .if1 .left)
-    (sym (c .before .before .before .before .same .ensures ∙ ap₂ same (c .before .before .before .before .before .name-at2 .ensures) (c .before .before .before .before .before .before .before .before .before .name-at .ensures)) ∙ c .before .before .before .if2 .left)
+    some-more (alike s (args .at)) s (args .at) (loop .i) (space-end2 .result) (space-end2 .ensures) (c .before .before .before .before .before .before .if2 .left)
+    (sym (c .before .before .before .before .same .ensures ∙ ap₂ same (c .before .before .before .before .before .name-at2 .ensures) (c .before .before .before .before .before .before .before .before .before .name-at .ensures)) ∙ c .before .before .before .if3 .left)
     _ (sym (c .before .before .attribute .ensures) ∙ c .enum-told .given .1)
     ∙ loop .inv
 
@@ -77,15 +83,17 @@ named-spec =
     Inv-loop
     μ-loop
     (λ c κs. search needs)
-    (λ c. refl)
-    (λ c κs. search needs)
     returns
     (λ c κs. search needs)
+    (λ c. refl)
     (λ c κs. search needs)
     returns-2
+    (λ c κs. search needs)
+    (λ c κs. search needs)
+    returns-3
     (λ c κs. search needs)
     (λ c. search needs)
     loop-less
     loop-again
     (λ c. search needs)
-    returns-3)
+    returns-4)
