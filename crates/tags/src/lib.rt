@@ -1,15 +1,15 @@
 // Names, attributes, start tags and end tags, at any place of any text.
+mod currency;
+mod ends;
+mod turns;
+
 ghost use mathlib.Core.Path.{_≡_};
-ghost use Prim.Native.Nat.{_+_, _≤_, _<_};
-ghost use lib.ListN.{length};
-ghost use Rattle.wire.specs.Field.{text};
-ghost use Rattle.letters.specs.Places.{between, expected};
+ghost use Prim.Native.Nat.{_+_};
 ghost use Rattle.letters.specs.Characters.{widthAt};
 ghost use Rattle.letters.specs.References.{referenceAt};
 ghost use Rattle.tags.specs.Names.{isSpace, nameStart, nameByte, spaceEnd, nameEnd, nameAt};
-ghost use Rattle.tags.specs.Attributes.{afterReference, afterCharacter, valueTurn, valueAt, isQuote, attributeAt};
-ghost use Rattle.tags.specs.Attributes.{named, attributeTurn, attributesAt, letterAt, spells, inEuros, euros};
-ghost use Rattle.tags.specs.Tags.{closedAt, startAt, endAt};
+ghost use Rattle.tags.specs.Attributes.{afterReference, afterCharacter, isQuote, attributeAt, attributesAt, euros};
+ghost use Rattle.tags.specs.Tags.{startAt, endAt};
 use letters::Reach;
 use letters::Reference;
 use letters::Turn;
@@ -83,29 +83,6 @@ pub fn name_at(s: &[u8], at: usize) -> &[u8]
     wire::text_at(s, at, name_end(s, at) - at)
 }
 
-// Whether the name between two places stands at place at too: what is after it there, or where it differs. How much of it can be
-// compared is settled in front, so that a byte costs no more than its comparison.
-fn name_again(s: &[u8], from: usize, to: usize, at: usize) -> Reach
-    requires { ⌜ to ≡ nameEnd (now s) from ⌝ }
-    requires { ⌜ at ≤ length (now s) ⌝ }
-    ensures { λ r. ⌜ r ≡ expected (now (s .entry)) (between (now (s .entry)) from to) at ⌝ }
-{
-    let n = wire::least(to - from, s.len() - at);
-    let mut k = 0;
-    while k < n {
-        let b = s[from + k];
-        if s[at + k] != b {
-            return Reach::Broken(at + k);
-        }
-        k += 1;
-    }
-    if from + k < to {
-        Reach::Broken(at + k)
-    } else {
-        Reach::To(at + k)
-    }
-}
-
 // ---- attributes
 
 // On after the reference that stands here.
@@ -130,45 +107,6 @@ pub fn after_character(s: &[u8], at: usize) -> Turn
     }
 }
 
-fn value_turn(s: &[u8], quote: u8, at: usize) -> Turn
-    requires { ⌜ 0 < quote ⌝ }
-    ensures { λ r. ⌜ r ≡ valueTurn quote (now (s .entry)) at ⌝ }
-{
-    let b = letters::byte_at(s, at);
-    if b == quote {
-        return Turn::Ends(at + 1);
-    }
-    if b == b'<' {
-        return Turn::Breaks(at);
-    }
-    if b == b'&' {
-        after_reference(s, at)
-    } else {
-        after_character(s, at)
-    }
-}
-
-// A value and its closing quote. No quote is 0, which is what stands past the end.
-fn value(s: &[u8], quote: u8, at: usize) -> Reach
-    requires { ⌜ 0 < quote ⌝ }
-    ensures { λ r. ⌜ r ≡ valueAt quote (now (s .entry)) at ⌝ }
-{
-    let mut i = at;
-    loop {
-        match value_turn(s, quote, i) {
-            Turn::On(n) => {
-                i = n;
-            }
-            Turn::Ends(e) => {
-                return Reach::To(e);
-            }
-            Turn::Breaks(p) => {
-                return Reach::Broken(p);
-            }
-        }
-    }
-}
-
 pub fn is_quote(b: u8) -> bool
     ensures { λ r. ⌜ r ≡ isQuote b ⌝ }
 {
@@ -186,56 +124,9 @@ pub fn attribute(s: &[u8], at: usize) -> Reach
     let from = space_end(s, equals + 1);
     let quote = letters::byte_at(s, from);
     if is_quote(quote) {
-        value(s, quote, from + 1)
+        turns::value(s, quote, from + 1)
     } else {
         Reach::Broken(from)
-    }
-}
-
-// Whether an attribute from place from on has the name that stands at place at, before that place. Before the first there is none.
-fn named(s: &[u8], from: usize, at: usize) -> bool
-    ensures { λ r. ⌜ r ≡ named (now (s .entry)) from at ⌝ }
-{
-    if at <= space_end(s, from) {
-        return false;
-    }
-    let name = name_at(s, at);
-    let mut i = from;
-    loop {
-        let k = space_end(s, i);
-        if at <= k {
-            return false;
-        }
-        if texts::same(name_at(s, k), name) {
-            return true;
-        }
-        match attribute(s, k) {
-            Reach::To(n) => {
-                i = n;
-            }
-            Reach::Broken(_) => {
-                return false;
-            }
-        }
-    }
-}
-
-fn attribute_turn(s: &[u8], from: usize, at: usize) -> Turn
-    ensures { λ r. ⌜ r ≡ attributeTurn (now (s .entry)) from at ⌝ }
-{
-    if !is_space(letters::byte_at(s, at)) {
-        return Turn::Ends(at);
-    }
-    let k = space_end(s, at);
-    if !name_starts(letters::byte_at(s, k)) {
-        return Turn::Ends(k);
-    }
-    if named(s, from, k) {
-        return Turn::Breaks(k);
-    }
-    match attribute(s, k) {
-        Reach::To(n) => Turn::On(n),
-        Reach::Broken(p) => Turn::Breaks(p),
     }
 }
 
@@ -245,7 +136,7 @@ pub fn attributes(s: &[u8], from: usize) -> Reach
 {
     let mut i = from;
     loop {
-        match attribute_turn(s, from, i) {
+        match turns::attribute_turn(s, from, i) {
             Turn::On(n) => {
                 i = n;
             }
@@ -259,62 +150,6 @@ pub fn attributes(s: &[u8], from: usize) -> Reach
     }
 }
 
-// ---- a currency
-
-// The place after a letter, which stands itself or by a reference.
-fn letter(s: &[u8], c: u8, at: usize) -> Reach
-    requires { ⌜ 0 < c ⌝ }
-    ensures { λ r. ⌜ r ≡ letterAt c (now (s .entry)) at ⌝ }
-{
-    if letters::byte_at(s, at) == c {
-        return Reach::To(at + 1);
-    }
-    match letters::reference_at(s, at) {
-        Reference::Stands(d, next) => {
-            if d == c as usize {
-                Reach::To(next)
-            } else {
-                Reach::Broken(at)
-            }
-        }
-        Reference::Nothing => Reach::Broken(at),
-    }
-}
-
-// Whether EUR and the closing quote stand here.
-fn spells_euros(s: &[u8], quote: u8, at: usize) -> bool
-    ensures { λ r. ⌜ r ≡ spells (text "EUR") quote (now (s .entry)) at ⌝ }
-{
-    match letter(s, b'E', at) {
-        Reach::To(a) => match letter(s, b'U', a) {
-            Reach::To(b) => match letter(s, b'R', b) {
-                Reach::To(e) => letters::byte_at(s, e) == quote,
-                Reach::Broken(_) => false,
-            },
-            Reach::Broken(_) => false,
-        },
-        Reach::Broken(_) => false,
-    }
-}
-
-// Whether the attribute whose name begins here is Ccy="EUR".
-fn is_euros(s: &[u8], at: usize) -> bool
-    ensures { λ r. ⌜ r ≡ inEuros (now (s .entry)) at ⌝ }
-{
-    if !texts::same(name_at(s, at), b"Ccy") {
-        return false;
-    }
-    let equals = space_end(s, name_end(s, at));
-    if s.len() <= equals {
-        return false;
-    }
-    let from = space_end(s, equals + 1);
-    if s.len() <= from {
-        return false;
-    }
-    spells_euros(s, s[from], from + 1)
-}
-
 // Whether one of the attributes between two places says that the amount is in euros.
 pub fn in_euros(s: &[u8], from: usize, end: usize) -> bool
     ensures { λ r. ⌜ r ≡ euros (now (s .entry)) from end ⌝ }
@@ -325,7 +160,7 @@ pub fn in_euros(s: &[u8], from: usize, end: usize) -> bool
         if end <= k {
             return false;
         }
-        if is_euros(s, k) {
+        if currency::is_euros(s, k) {
             return true;
         }
         match attribute(s, k) {
@@ -341,24 +176,6 @@ pub fn in_euros(s: &[u8], from: usize, end: usize) -> bool
 
 // ---- tags
 
-// What ends a start tag.
-fn closed(s: &[u8], at: usize) -> Tag
-    ensures { λ r. ⌜ r ≡ closedAt (now (s .entry)) at ⌝ }
-{
-    let b = letters::byte_at(s, at);
-    if b == b'>' {
-        return Tag::Open(at, at + 1);
-    }
-    if b != b'/' {
-        return Tag::Faulty(at);
-    }
-    if letters::byte_at(s, at + 1) == b'>' {
-        Tag::Empty(at, at + 2)
-    } else {
-        Tag::Faulty(at + 1)
-    }
-}
-
 // A start tag whose name ends at place to, in general.
 fn attributed(s: &[u8], at: usize, to: usize) -> Tag
     requires { ⌜ to ≡ nameEnd (now s) (at + 1) ⌝ }
@@ -371,7 +188,7 @@ fn attributed(s: &[u8], at: usize, to: usize) -> Tag
         return Tag::Faulty(at + 1);
     }
     match attributes(s, to) {
-        Reach::To(e) => closed(s, e),
+        Reach::To(e) => ends::closed(s, e),
         Reach::Broken(p) => Tag::Faulty(p),
     }
 }
@@ -400,16 +217,6 @@ pub fn start(s: &[u8], at: usize) -> Tag
     attributed(s, at, name_end(s, at + 1))
 }
 
-// Spaces or none, and what ends an end tag.
-fn end_closed(s: &[u8], at: usize) -> Reach
-    ensures { λ r. ⌜ r ≡ expected (now (s .entry)) (text ">") (spaceEnd (now (s .entry)) at) ⌝ }
-{
-    if letters::byte_at(s, at) == b'>' {
-        return Reach::To(at + 1);
-    }
-    letters::expect(s, b">", space_end(s, at))
-}
-
 // The end tag of the element whose start tag began at a place, and whose name ends at place to.
 pub fn end_from(s: &[u8], start: usize, to: usize, at: usize) -> Reach
     requires { ⌜ to ≡ nameEnd (now s) (start + 1) ⌝ }
@@ -421,8 +228,8 @@ pub fn end_from(s: &[u8], start: usize, to: usize, at: usize) -> Reach
     if letters::byte_at(s, at + 1) != b'/' {
         return Reach::Broken(at + 1);
     }
-    match name_again(s, start + 1, to, at + 2) {
-        Reach::To(m) => end_closed(s, m),
+    match ends::name_again(s, start + 1, to, at + 2) {
+        Reach::To(m) => ends::end_closed(s, m),
         Reach::Broken(p) => Reach::Broken(p),
     }
 }

@@ -1,4 +1,4 @@
--- `tags::is_euros` meets its contract: each answer is that of the way that led to it. Assumes nothing.
+-- `tags::currency::is_euros` meets its contract: each answer is that of the way that led to it. Assumes nothing.
 use mathlib.Core.Path.{_≡_, sym, ap, _∙_}
 use mathlib.Core.List.{List}
 use Prim.Native.Nat.{ℕ, _+_}
@@ -10,8 +10,8 @@ use Rattle.letters.specs.Places.{byteAt}
 use Rattle.tags.specs.Names.{spaceEnd}
 use Rattle.tags.specs.Attributes.{equalsAt, quoteAt, spells}
 use Rattle.tags.proofs.Searches.{euros-other, euros-past, euros-spelled}
-use Rattle.tags.proofs.is_euros.Statement.{statement}
-use Rattle.tags.proofs.is_euros.Tie as tie
+use Rattle.tags.proofs.currency.is_euros.Statement.{statement}
+use Rattle.tags.proofs.currency.is_euros.Tie as tie
 
 returns : tie.Need-returns
 returns c =

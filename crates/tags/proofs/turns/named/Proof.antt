@@ -1,4 +1,4 @@
--- `tags::named` meets its contract: what is left of the search from place i on comes to what the whole comes to. Assumes nothing.
+-- `tags::turns::named` meets its contract: what is left of the search from place i on comes to what the whole comes to. Assumes nothing.
 use mathlib.Core.Path.{_≡_, refl, sym, ap₂, _∙_}
 use mathlib.Core.Bool.{Bool}
 use mathlib.Core.List.{List}
@@ -12,8 +12,8 @@ use Rattle.tags.specs.Names.{nameAt}
 use Rattle.tags.specs.Attributes.{someAttribute, named}
 use Rattle.tags.proofs.AttributeWalk.{attribute-forward}
 use Rattle.tags.proofs.Searches.{some-past, some-here, some-more}
-use Rattle.tags.proofs.named.Statement.{statement}
-use Rattle.tags.proofs.named.Tie as tie
+use Rattle.tags.proofs.turns.named.Statement.{statement}
+use Rattle.tags.proofs.turns.named.Tie as tie
 
 -- whether the name at place k is the one that is looked for
 abbrev alike : List ℕ → ℕ → ℕ → Bool

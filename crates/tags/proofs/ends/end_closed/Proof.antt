@@ -1,12 +1,12 @@
--- `tags::end_closed` meets its contract. Assumes nothing.
+-- `tags::ends::end_closed` meets its contract. Assumes nothing.
 use mathlib.Core.Path.{_≡_}
 use native.Mathlib.Omega.{arith}
 use borrow.Author.Needs.{needs}
 use Rattle.letters.specs.Places.{byteAt}
 use Rattle.letters.proofs.Scans.{byte-there}
 use Rattle.tags.proofs.Tags.{ended-here}
-use Rattle.tags.proofs.end_closed.Statement.{statement}
-use Rattle.tags.proofs.end_closed.Tie as tie
+use Rattle.tags.proofs.ends.end_closed.Statement.{statement}
+use Rattle.tags.proofs.ends.end_closed.Tie as tie
 
 add-t6 : tie.Need-add-t6
 add-t6 c =

@@ -1,4 +1,4 @@
--- `tags::closed` meets its contract: each answer is that of the way that led to it. Assumes nothing.
+-- `tags::ends::closed` meets its contract: each answer is that of the way that led to it. Assumes nothing.
 use mathlib.Core.Path.{_≡_, sym, _∙_}
 use Prim.Native.Nat.{_+_}
 use native.Mathlib.Omega.{arith}
@@ -6,8 +6,8 @@ use borrow.Author.Needs.{needs}
 use Rattle.letters.specs.Places.{byteAt}
 use Rattle.letters.proofs.Scans.{byte-there}
 use Rattle.tags.proofs.Tags.{closed-open, closed-odd, closed-empty, closed-short}
-use Rattle.tags.proofs.closed.Statement.{statement}
-use Rattle.tags.proofs.closed.Tie as tie
+use Rattle.tags.proofs.ends.closed.Statement.{statement}
+use Rattle.tags.proofs.ends.closed.Tie as tie
 
 add-t5 : tie.Need-add-t5
 add-t5 c =

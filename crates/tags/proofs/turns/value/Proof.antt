@@ -1,4 +1,4 @@
--- `tags::value` meets its contract: what is left of the value from place i on comes to what the whole comes to. Assumes nothing.
+-- `tags::turns::value` meets its contract: what is left of the value from place i on comes to what the whole comes to. Assumes nothing.
 use mathlib.Core.Path.{_≡_, refl, sym, _∙_}
 use Prim.Native.Nat.{_-_}
 use native.Mathlib.Omega.{arith}
@@ -7,8 +7,8 @@ use borrow.Author.Needs.{needs}
 use Rattle.letters.specs.declared.Turn.the-variants.{On, Ends, Breaks}
 use Rattle.tags.specs.Attributes.{valueAt}
 use Rattle.tags.proofs.Values.{value-on, value-turn}
-use Rattle.tags.proofs.value.Statement.{statement}
-use Rattle.tags.proofs.value.Tie as tie
+use Rattle.tags.proofs.turns.value.Statement.{statement}
+use Rattle.tags.proofs.turns.value.Tie as tie
 
 abbrev Inv-loop : tie.InvT-loop
 Inv-loop s quote at i₀ i = valueAt quote s i ≡ valueAt quote s at

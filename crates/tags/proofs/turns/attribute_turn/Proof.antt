@@ -1,4 +1,4 @@
--- `tags::attribute_turn` meets its contract: each answer is that of the way that led to it. Assumes nothing.
+-- `tags::turns::attribute_turn` meets its contract: each answer is that of the way that led to it. Assumes nothing.
 use mathlib.Core.Path.{_≡_, sym, ap, _∙_}
 use mathlib.Core.Bool.{true}
 use borrow.Author.Needs.{needs}
@@ -7,8 +7,8 @@ use Rattle.letters.specs.Places.{byteAt}
 use Rattle.letters.specs.declared.Reach.the-variants.{To, Broken}
 use Rattle.tags.specs.Names.{isSpace, nameStart}
 use Rattle.tags.proofs.AttributeWalk.{turn-plain, turn-ends, turn-twice, turn-on}
-use Rattle.tags.proofs.attribute_turn.Statement.{statement}
-use Rattle.tags.proofs.attribute_turn.Tie as tie
+use Rattle.tags.proofs.turns.attribute_turn.Statement.{statement}
+use Rattle.tags.proofs.turns.attribute_turn.Tie as tie
 
 returns : tie.Need-returns
 returns c =

@@ -1,12 +1,12 @@
--- `tags::value_turn` meets its contract: each answer is that of the way that led to it. Assumes nothing.
+-- `tags::turns::value_turn` meets its contract: each answer is that of the way that led to it. Assumes nothing.
 use mathlib.Core.Path.{_≡_, sym, _∙_}
 use native.Mathlib.Omega.{arith}
 use borrow.Author.Needs.{needs}
 use Rattle.letters.specs.Places.{byteAt}
 use Rattle.letters.proofs.Scans.{byte-there}
 use Rattle.tags.proofs.Values.{value-quote, value-open, value-reference, value-character}
-use Rattle.tags.proofs.value_turn.Statement.{statement}
-use Rattle.tags.proofs.value_turn.Tie as tie
+use Rattle.tags.proofs.turns.value_turn.Statement.{statement}
+use Rattle.tags.proofs.turns.value_turn.Tie as tie
 
 add-t6 : tie.Need-add-t6
 add-t6 c =

@@ -1,4 +1,4 @@
--- `tags::letter` meets its contract: each answer is that of the way that led to it. Assumes nothing.
+-- `tags::currency::letter` meets its contract: each answer is that of the way that led to it. Assumes nothing.
 use mathlib.Core.Path.{_≡_, sym, _∙_}
 use native.Mathlib.Omega.{arith}
 use borrow.Author.Needs.{needs}
@@ -6,8 +6,8 @@ use borrow.Author.Tests.{eq-eqb, ne-eqb}
 use Rattle.letters.specs.Places.{byteAt}
 use Rattle.letters.proofs.Scans.{byte-there}
 use Rattle.tags.proofs.Searches.{letter-itself, letter-referred}
-use Rattle.tags.proofs.letter.Statement.{statement}
-use Rattle.tags.proofs.letter.Tie as tie
+use Rattle.tags.proofs.currency.letter.Statement.{statement}
+use Rattle.tags.proofs.currency.letter.Tie as tie
 
 add-t8 : tie.Need-add-t8
 add-t8 c =

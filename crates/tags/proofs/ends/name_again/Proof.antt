@@ -1,4 +1,4 @@
--- `tags::name_again` meets its contract: what is left of the name, from the place reached on, comes to what the whole does. Assumes nothing.
+-- `tags::ends::name_again` meets its contract: what is left of the name, from the place reached on, comes to what the whole does. Assumes nothing.
 use mathlib.Core.Path.{_≡_, refl, sym, _∙_}
 use Prim.Native.Nat.{_+_, _-_, _≤_}
 use native.Mathlib.Nat.{add-zero}
@@ -8,8 +8,8 @@ use borrow.Author.Needs.{needs}
 use Rattle.letters.specs.Places.{between, expected}
 use Rattle.letters.proofs.Scans.{run-inside, again-ends, again-short, again-differs, again-on}
 use Rattle.tags.specs.Names.{nameByte}
-use Rattle.tags.proofs.name_again.Statement.{statement}
-use Rattle.tags.proofs.name_again.Tie as tie
+use Rattle.tags.proofs.ends.name_again.Statement.{statement}
+use Rattle.tags.proofs.ends.name_again.Tie as tie
 
 abbrev Inv-loop : tie.InvT-loop
 Inv-loop s from to at n k₀ k = (expected s (between s (from + k) to) (at + k) ≡ expected s (between s from to) at) × (k ≤ n)

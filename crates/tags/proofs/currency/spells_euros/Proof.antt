@@ -1,4 +1,4 @@
--- `tags::spells_euros` meets its contract: letter by letter. Assumes nothing.
+-- `tags::currency::spells_euros` meets its contract: letter by letter. Assumes nothing.
 use mathlib.Core.Path.{sym, ap, _∙_}
 use Prim.Native.Nat.{ℕ}
 use lib.Dec.{eqb}
@@ -7,8 +7,8 @@ use Rattle.wire.specs.Field.{text}
 use Rattle.letters.specs.declared.Reach.the-variants.{To}
 use Rattle.tags.specs.Attributes.{spells}
 use Rattle.tags.proofs.Searches.{spells-letter}
-use Rattle.tags.proofs.spells_euros.Statement.{statement}
-use Rattle.tags.proofs.spells_euros.Tie as tie
+use Rattle.tags.proofs.currency.spells_euros.Statement.{statement}
+use Rattle.tags.proofs.currency.spells_euros.Tie as tie
 
 returns : tie.Need-returns
 unfolding spells
