@@ -122,7 +122,8 @@ fn text_turn(s: &[u8], at: usize) -> Turn
     tags::after_character(s, at)
 }
 
-// The same as `text_end`, turn by turn.
+// The same as `text_end`, turn by turn. That calls it at two places: called at one, it would be compiled into it, and make the short way
+// longer.
 fn rest_end(s: &[u8], at: usize) -> Reach
     ensures { λ r. ⌜ r ≡ textAt (now (s .entry)) at ⌝ }
 {
@@ -148,10 +149,11 @@ pub fn text_end(s: &[u8], at: usize) -> Reach
     ensures { λ r. ⌜ r ≡ textAt (now (s .entry)) at ⌝ }
 {
     let i = plain_end(s, at);
-    if letters::byte_at(s, i) == b'<' {
-        if letters::byte_at(s, i + 1) != b'!' {
-            return Reach::To(i);
-        }
+    if letters::byte_at(s, i) != b'<' {
+        return rest_end(s, i);
+    }
+    if letters::byte_at(s, i + 1) != b'!' {
+        return Reach::To(i);
     }
     rest_end(s, i)
 }
@@ -162,7 +164,7 @@ pub fn text_end(s: &[u8], at: usize) -> Reach
 fn is_straight(b: u8) -> bool
     ensures { λ r. ⌜ r ≡ straight b ⌝ }
 {
-    is_plain(b) & !(b == 13)
+    is_plain(b) & (b != 13)
 }
 
 // The place after the straight bytes that stand here. Where a tag follows them, they are what the text says.
