@@ -116,13 +116,20 @@ fn count(counts: &mut [u8], role: usize)
 }
 
 // Notes a group, of whose children is known how often each role was counted.
+fn note_needed(notes: &mut [usize], role: usize, place: usize, counts: &[u8])
+    ensures { λ _. ⌜ now (notes .exit) ≡ noting role place (lacks role (λ k. getD (now (counts .entry)) k 0)) (now (notes .entry)) ⌝ }
+{
+    note(notes, role, place, paths::lacking(role, counts));
+}
+
+// The same in few steps for what is stepped over, which most groups are.
 fn note_group(notes: &mut [usize], role: usize, place: usize, counts: &[u8])
     ensures { λ _. ⌜ now (notes .exit) ≡ noting role place (lacks role (λ k. getD (now (counts .entry)) k 0)) (now (notes .entry)) ⌝ }
 {
     if role == paths::OTHER {
         return;
     }
-    note(notes, role, place, paths::lacking(role, counts));
+    note_needed(notes, role, place, counts);
 }
 
 // ---- parts of an element: of each is known where its name ends, so that no name is looked through twice
@@ -225,7 +232,7 @@ fn note_bare(notes: &mut [usize], role: usize, place: usize)
     ensures { λ _. ⌜ now (notes .exit) ≡ noting role place (lacks role (countOf none)) (now (notes .entry)) ⌝ }
 {
     let counts = [0u8; 34];
-    note_group(notes, role, place, &counts);
+    note_needed(notes, role, place, &counts);
 }
 
 // An element that plays a role, with so many levels left for it and what it holds.

@@ -1,4 +1,4 @@
--- The laws of runs: what each byte of a run shows of its place, the run shows of its start; a walk goes on over plain bytes. Assumes nothing.
+-- The laws of runs: what holds where a run ends holds where it starts, if each of its bytes keeps it; a walk over plain bytes. Assumes nothing.
 use mathlib.Core.Path.{_≡_, refl, sym, _∙_}
 use mathlib.Core.Bool.{Bool, true, false}
 use mathlib.Core.Logic.{⊎-elim}

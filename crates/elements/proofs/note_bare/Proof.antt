@@ -9,7 +9,7 @@ use Rattle.elements.proofs.note_bare.Statement.{statement}
 use Rattle.elements.proofs.note_bare.Tie as tie
 
 returns : tie.Need-returns
-returns c = c .before .before .note-group .ensures ∙ (rw (counted-lacks (c .before .before .before .before .before .before .args .role) (replicate 34 0) none zeros-counted))
+returns c = c .before .before .note-needed .ensures ∙ (rw (counted-lacks (c .before .before .before .before .before .before .args .role) (replicate 34 0) none zeros-counted))
 
 pub note-bare-spec : {M : Type 1} → statement M
 note-bare-spec = tie.close (tie.spec (λ c. search needs) (λ c κs. search needs) (λ c. search needs) returns)

@@ -11,4 +11,4 @@ unfolding noting
 returns c = rw (eq-eqb _ _ (c .if1 .taken))
 
 pub note-group-spec : {M : Type 1} → statement M
-note-group-spec = tie.close (tie.spec returns (λ c κs. search needs) (λ c κs. search needs) (λ c. search needs) (λ c. cc))
+note-group-spec = tie.close (tie.spec returns (λ c κs. search needs) (λ c. search needs) (λ c. cc))
