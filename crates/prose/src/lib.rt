@@ -122,6 +122,17 @@ fn text_turn(s: &[u8], at: usize) -> Turn
     tags::after_character(s, at)
 }
 
+// The place after the plain bytes that stand here, where most often none does and a tag begins.
+fn short_end(s: &[u8], at: usize) -> usize
+    ensures { λ r. ⌜ r ≡ runEnd plain (now (s .entry)) at ⌝ }
+{
+    if letters::byte_at(s, at) == b'<' {
+        at
+    } else {
+        plain_end(s, at)
+    }
+}
+
 // The same as `text_end`, turn by turn. That calls it at two places: called at one, it would be compiled into it, and make the short way
 // longer.
 fn rest_end(s: &[u8], at: usize) -> Reach
@@ -148,7 +159,7 @@ fn rest_end(s: &[u8], at: usize) -> Reach
 pub fn text_end(s: &[u8], at: usize) -> Reach
     ensures { λ r. ⌜ r ≡ textAt (now (s .entry)) at ⌝ }
 {
-    let i = plain_end(s, at);
+    let i = short_end(s, at);
     if letters::byte_at(s, i) != b'<' {
         return rest_end(s, i);
     }
