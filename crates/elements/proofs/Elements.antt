@@ -102,6 +102,16 @@ module _ (s : List ℕ) (depth : ℕ) where
   unfolding contentBy
   content-over role at n f told e = items-over (suc (length s)) at n f (rw e at told)
 
+-- so it leaves the notes as they are
+pub over-noted : (depth : ℕ) (s : List ℕ) (role at : ℕ) (notes : List ℕ) → role ≡ roles.other → Noted (elementAt depth s role at) notes notes
+unfolding noted
+over-noted depth s role at notes e = by-parsed (elementAt depth s role at) refl
+  where
+    by-parsed : (r : Parsed) → elementAt depth s role at ≡ r → Noted r notes notes
+    by-parsed (read n f) told = rw (over s depth role at n f e told)
+    by-parsed (broken p) told = tt
+    by-parsed (deep p) told = tt
+
 -- ---- a group
 
 module _ (role at : ℕ) (f : Forest) (notes : List ℕ) where

@@ -1,5 +1,8 @@
 // Elements within elements, each in its role. Proved: any text is read exactly as the grammar says, from any place, with any levels left;
 // and what is noted on the way is what the definition notes of the needed elements that were read.
+mod notes;
+mod over;
+
 ghost use mathlib.Core.Path.{_≡_};
 ghost use mathlib.Core.Bool.{Bool};
 ghost use Prim.Native.Nat.{suc, _+_, _≤_, _<_, min};
@@ -24,148 +27,18 @@ pub enum Step {
 // How many levels of elements there may be.
 pub const LEVELS: usize = 32;
 
-// How many notes are taken: a place for each role, the first element that lacks something, the number of messages.
-pub const NOTES: usize = 36;
-
+// Notes are a place for each role, then these two: the first element that lacks something, the number of messages.
 pub const LACK: usize = 34;
 
 pub const MESSAGES: usize = 35;
 
-// ---- notes
-
-pub fn note_at(notes: &[usize], k: usize) -> usize
-    ensures { λ r. ⌜ r ≡ getD (now (notes .entry)) k 0 ⌝ }
-{
-    if k < notes.len() { notes[k] } else { 0 }
-}
-
-fn put_note(notes: &mut [usize], k: usize, v: usize)
-    ensures { λ _. ⌜ now (notes .exit) ≡ set (now (notes .entry)) k v ⌝ }
-{
-    if k < notes.len() {
-        notes[k] = v;
-    }
-}
-
-fn one_more(n: usize) -> usize
-    ensures { λ r. ⌜ r ≡ oneMore n ⌝ }
-{
-    if n < 4294967296 { n + 1 } else { n }
-}
-
-fn count_message(notes: &mut [usize], message: bool)
-    ensures { λ _. ⌜ now (notes .exit) ≡ counted message (now (notes .entry)) ⌝ }
-{
-    if !message {
-        return;
-    }
-    let n = one_more(note_at(notes, MESSAGES));
-    put_note(notes, MESSAGES, n);
-}
-
-fn warn(notes: &mut [usize], lack: bool, place: usize)
-    ensures { λ _. ⌜ now (notes .exit) ≡ warned lack place (now (notes .entry)) ⌝ }
-{
-    if !lack {
-        return;
-    }
-    let first = wire::least(note_at(notes, LACK), place);
-    put_note(notes, LACK, first);
-}
-
-fn put_place(notes: &mut [usize], role: usize, place: usize)
-    ensures { λ _. ⌜ now (notes .exit) ≡ placed role place (now (notes .entry)) ⌝ }
-{
-    if paths::ROLES <= role {
-        return;
-    }
-    put_note(notes, role, place);
-}
-
-// Notes an element of a role, of which is known whether it lacks something.
-fn note(notes: &mut [usize], role: usize, place: usize, lack: bool)
-    ensures { λ _. ⌜ now (notes .exit) ≡ noting role place lack (now (notes .entry)) ⌝ }
-{
-    if role == paths::OTHER {
-        return;
-    }
-    put_place(notes, role, place);
-    count_message(notes, paths::is_message(role));
-    warn(notes, lack, place);
-}
-
-// ---- counts of children by role
-
-// One, and then two however many follow.
-fn bump(n: u8) -> u8
-    ensures { λ r. ⌜ r ≡ min (suc n) 2 ⌝ }
-{
-    if n == 0 { 1 } else { 2 }
-}
-
-fn count(counts: &mut [u8], role: usize)
-    ensures { λ _. ⌜ now (counts .exit) ≡ bumped role (now (counts .entry)) ⌝ }
-{
-    if role == paths::OTHER {
-        return;
-    }
-    let k = paths::counts_as(role);
-    if k < counts.len() {
-        counts[k] = bump(counts[k]);
-    }
-}
-
-// Notes a group, of whose children is known how often each role was counted.
-fn note_needed(notes: &mut [usize], role: usize, place: usize, counts: &[u8])
-    ensures { λ _. ⌜ now (notes .exit) ≡ noting role place (lacks role (λ k. getD (now (counts .entry)) k 0)) (now (notes .entry)) ⌝ }
-{
-    note(notes, role, place, paths::lacking(role, counts));
-}
-
-// The same in few steps for what is stepped over, which most groups are.
-fn note_group(notes: &mut [usize], role: usize, place: usize, counts: &[u8])
-    ensures { λ _. ⌜ now (notes .exit) ≡ noting role place (lacks role (λ k. getD (now (counts .entry)) k 0)) (now (notes .entry)) ⌝ }
-{
-    if role == paths::OTHER {
-        return;
-    }
-    note_needed(notes, role, place, counts);
-}
-
 // ---- parts of an element: of each is known where its name ends, so that no name is looked through twice
-
-// What stands where no level is left: a start tag is too deep.
-fn too_deep(s: &[u8], at: usize) -> Step
-    ensures { λ r. ⌜ r ≡ shallow (now (s .entry)) at ⌝ }
-{
-    if at < s.len() {
-        if tags::name_starts(letters::byte_at(s, at + 1)) {
-            return Step::Deep(at);
-        }
-        return Step::Form(at + 1);
-    }
-    Step::Form(at)
-}
-
-// The end tag of the element that begins at place at.
-fn close(s: &[u8], at: usize, to: usize, end: usize) -> Step
-    requires { ⌜ to ≡ nameEnd (now s) (at + 1) ⌝ }
-    ensures { λ r. ⌜ r ≡ closedBy (endAt (now (s .entry)) at end) ⌝ }
-{
-    match tags::end_from(s, at, to, end) {
-        Reach::To(n) => Step::Done(n),
-        Reach::Broken(p) => Step::Form(p),
-    }
-}
 
 // The role of the child whose name stands at a place.
 fn child_of(s: &[u8], role: usize, at: usize, to: usize) -> usize
     requires { ⌜ to ≡ nameEnd (now s) at ⌝ }
     ensures { λ r. ⌜ r ≡ childRole role (nameAt (now (s .entry)) at) ⌝ }
 {
-    if role == paths::OTHER {
-        return paths::OTHER;
-    }
     paths::child_role(role, wire::text_at(s, at, to - at))
 }
 
@@ -187,7 +60,7 @@ fn filled_field(s: &[u8], at: usize, to: usize, role: usize, inside: usize) -> S
     match prose::text_end(s, inside) {
         Reach::To(e) => {
             if fields::fits_at(role, s, inside) {
-                close(s, at, to, e)
+                over::close(s, at, to, e)
             } else {
                 Step::Form(e)
             }
@@ -208,7 +81,7 @@ fn field(s: &[u8], at: usize, to: usize, role: usize, notes: &mut [usize]) -> St
             if !currency(s, role, to, end) {
                 return Step::Form(end);
             }
-            note(notes, role, inside, false);
+            notes::note(notes, role, inside, false);
             filled_field(s, at, to, role, inside)
         }
         Tag::Empty(end, next) => {
@@ -218,7 +91,7 @@ fn field(s: &[u8], at: usize, to: usize, role: usize, notes: &mut [usize]) -> St
             if !fields::fits_empty(role) {
                 return Step::Form(end);
             }
-            note(notes, role, at, false);
+            notes::note(notes, role, at, false);
             Step::Done(next)
         }
         Tag::Faulty(p) => Step::Form(p),
@@ -227,34 +100,29 @@ fn field(s: &[u8], at: usize, to: usize, role: usize, notes: &mut [usize]) -> St
 
 // ---- elements and their contents, which call each other
 
-// Notes a group that holds nothing.
-fn note_bare(notes: &mut [usize], role: usize, place: usize)
-    ensures { λ _. ⌜ now (notes .exit) ≡ noting role place (lacks role (countOf none)) (now (notes .entry)) ⌝ }
-{
-    let counts = [0u8; 34];
-    note_needed(notes, role, place, &counts);
-}
-
 // An element that plays a role, with so many levels left for it and what it holds.
 fn element(s: &[u8], at: usize, to: usize, depth: usize, role: usize, notes: &mut [usize]) -> Step
     requires { ⌜ to ≡ nameEnd (now s) (at + 1) ⌝ }
     ensures step { λ r. ⌜ r ≡ stepOf (elementAt depth (now (s .entry)) role at) ⌝ }
     ensures notes { λ _. ⌜ Noted (elementAt depth (now (s .entry)) role at) (now (notes .entry)) (now (notes .exit)) ⌝ }
 {
+    if role == paths::OTHER {
+        return over::skip(s, at, to, depth);
+    }
     if depth == 0 {
-        return too_deep(s, at);
+        return over::too_deep(s, at);
     }
     if paths::BULK_IDENTIFIER <= role {
         return field(s, at, to, role, notes);
     }
     match tags::start_from(s, at, to) {
         Tag::Open(_, inside) => match content(s, inside, depth - 1, role, at, notes) {
-            Step::Done(e) => close(s, at, to, e),
+            Step::Done(e) => over::close(s, at, to, e),
             Step::Form(p) => Step::Form(p),
             Step::Deep(p) => Step::Deep(p),
         },
         Tag::Empty(_, next) => {
-            note_bare(notes, role, at);
+            notes::note_bare(notes, role, at);
             Step::Done(next)
         }
         Tag::Faulty(p) => Step::Form(p),
@@ -282,14 +150,14 @@ fn content(
             }
             Reach::To(j) => {
                 if letters::byte_at(s, j + 1) == b'/' {
-                    note_group(notes, role, place, &counts);
+                    notes::note_group(notes, role, place, &counts);
                     return Step::Done(j);
                 }
                 let to = tags::name_end(s, j + 1);
                 let child = child_of(s, role, j + 1, to);
                 match element(s, j, to, depth, child, notes) {
                     Step::Done(n) => {
-                        count(&mut counts, child);
+                        notes::count(&mut counts, child);
                         i = n;
                     }
                     Step::Form(p) => {

@@ -13,7 +13,7 @@ use Rattle.elements.specs.Grammar.{elementAt, contentAt, broken, deep}
 use Rattle.elements.proofs.Forests.{noted-length}
 use Rattle.elements.proofs.Forward.{element-told, element-onward}
 use Rattle.elements.proofs.Contents.{done-read, form-broken, deep-deep, read-noted, counted-lacks, Reading, reading-starts, reading-broken, reading-ends, child-broken, child-deep, child-read}
-use Rattle.elements.proofs.Elements.{element-flat, element-flat-noted, element-field, element-group, group-closed, group-closed-noted, group-broken, group-deep, group-empty, group-faulty, bare-noted}
+use Rattle.elements.proofs.Elements.{over-noted, element-flat, element-flat-noted, element-field, element-group, group-closed, group-closed-noted, group-broken, group-deep, group-empty, group-faulty, bare-noted}
 use Rattle.elements.proofs.content.Reads as content
 use Rattle.elements.proofs.content.Kinds as content-kinds
 use Rattle.elements.proofs.+content+element.Lts-content as content-lts
@@ -21,12 +21,13 @@ use Rattle.elements.proofs.element.Reads as element
 use Rattle.elements.proofs.element.Kinds as element-kinds
 use Rattle.elements.proofs.+content+element.Lts-element as element-lts
 use Rattle.elements.proofs.child_of.Reads as child-of-reads
-use Rattle.elements.proofs.close.Reads as close-reads
-use Rattle.elements.proofs.count.Reads as count-reads
+use Rattle.elements.proofs.over.close.Reads as close-reads
+use Rattle.elements.proofs.notes.count.Reads as count-reads
 use Rattle.elements.proofs.field.Reads as field-reads
-use Rattle.elements.proofs.note_group.Reads as note-group-reads
-use Rattle.elements.proofs.note_bare.Reads as note-bare-reads
-use Rattle.elements.proofs.too_deep.Reads as too-deep-reads
+use Rattle.elements.proofs.notes.note_group.Reads as note-group-reads
+use Rattle.elements.proofs.notes.note_bare.Reads as note-bare-reads
+use Rattle.elements.proofs.over.skip.Reads as skip-reads
+use Rattle.elements.proofs.over.too_deep.Reads as too-deep-reads
 use Rattle.letters.proofs.byte_at.Reads as byte-at-reads
 use Rattle.prose.proofs.text_end.Reads as text-end-reads
 use Rattle.tags.proofs.name_end.Reads as name-end-reads
@@ -116,6 +117,8 @@ pub +content+element-spec : {M : Type 1} → statement M
     (λ c. search needs)
     (λ c. rw (child-deep (elementAt (c .before .before .before .before .before .before .before .before .before .before .before .before .before .before .before .before .before .before .args .depth) (c .before .before .before .before .before .before .before .before .before .before .before .before .before .before .before .before .before .before .args .s .now)) (c .before .before .before .before .before .before .before .before .before .before .before .before .before .before .before .before .before .before .args .s .now) (c .before .before .before .before .before .before .before .before .before .before .before .before .before .before .before .before .before .before .args .role) (c .before .before .before .before .before .before .before .before .before .before .before .before .before .before .before .before .before .before .args .at) (c .before .before .before .before .before .before .before .before .before .before .before .before .before .before .before .before .before .before .args .notes .now) (element-onward (c .before .before .before .before .before .before .before .before .before .before .before .before .before .before .before .before .before .before .args .depth) (c .before .before .before .before .before .before .before .before .before .before .before .before .before .before .before .before .before .before .args .s .now)) (c .before .before .before .before .before .before .before .before .before .before .before .before .before .before .before .loop .i) (c .before .before .before .before .before .before .before .before .before .before .before .before .before .before .before .loop .notes) (c .before .before .before .before .before .before .before .before .before .before .before .before .before .before .before .loop .counts) (c .before .before .before .before .before .before .before .before .before .before .before .before .before .before .before .loop .inv .1) (c .before .before .before .before .before .before .before .before .before .before .before .before .j .given .0 .0) (c .before .before .before .before .before .before .before .child-of .result) (sym (c .before .before .before .before .before .before .before .before .before .before .before .before .before .before .text-end .ensures) ∙ c .before .before .before .before .before .before .before .before .before .before .before .before .j .given .1) (λ h. c .before .before .before .before .before .before .before .before .before .if1 .left (c .before .before .before .before .before .before .before .before .before .before .byte-at .ensures ∙ h)) (c .before .before .before .before .before .before .before .child-of .ensures) (c .before .p3 .given .0 .0) (deep-deep (elementAt (c .before .before .before .before .before .before .before .before .before .before .before .before .before .before .before .before .before .before .args .depth) (c .before .before .before .before .before .before .before .before .before .before .before .before .before .before .before .before .before .before .args .s .now) (c .before .before .before .before .before .before .before .child-of .result) (c .before .before .before .before .before .before .before .before .before .before .before .before .j .given .0 .0)) (c .before .p3 .given .0 .0) (sym (c .before .before .before .before .before .element .ensures .0) ∙ c .before .p3 .given .1))) (refl, tt)))
     λ t. element-lts.spec (
+      skip-reads.Asked,
+      skip-reads.Learnt,
       too-deep-reads.Asked,
       too-deep-reads.Learnt,
       field-reads.Asked,
@@ -132,31 +135,33 @@ pub +content+element-spec : {M : Type 1} → statement M
     (element-at t)
     element.Post
     (λ c κs. search needs)
-    (λ c. (c .too-deep .ensures ∙ element-flat (c .before .before .before .before .args .s .now) (c .before .before .before .before .args .role) (c .before .before .before .before .args .at) (c .before .before .before .before .args .depth) (c .before .if1 .taken), element-flat-noted (c .before .before .before .before .args .s .now) (c .before .before .before .before .args .role) (c .before .before .before .before .args .at) (c .before .before .before .before .args .depth) _ _ (c .before .if1 .taken)))
+    (λ c. (c .skip .ensures ∙ (rw (c .before .if1 .taken)), over-noted (c .before .before .before .before .args .depth) (c .before .before .before .before .args .s .now) (c .before .before .before .before .args .role) (c .before .before .before .before .args .at) (c .before .before .before .before .args .notes .now) (c .before .if1 .taken)))
+    (λ c κs. search needs)
+    (λ c. (c .too-deep .ensures ∙ element-flat (c .before .before .before .before .before .args .s .now) (c .before .before .before .before .before .args .role) (c .before .before .before .before .before .args .at) (c .before .before .before .before .before .args .depth) (c .before .if2 .taken), element-flat-noted (c .before .before .before .before .before .args .s .now) (c .before .before .before .before .before .args .role) (c .before .before .before .before .before .args .at) (c .before .before .before .before .before .args .depth) _ _ (c .before .if2 .taken)))
     (λ c κs. search needs)
     (λ c. search needs)
-    (λ c. rw (element-field (c .before .before .before .before .before .before .before .before .args .s .now) (c .before .before .before .before .before .before .before .before .args .role) (c .before .before .before .before .before .before .before .before .args .at) (c .before .before .before .before .before .before .before .before .args .depth) (c .before .before .before .before .before .if1 .left) (c .before .before .before .before .if2 .taken)) (c .before .before .field .ensures .0, c .before .before .field .ensures .1))
-    (λ c κs. search needs)
-    (λ c. search needs)
-    (λ c. search needs)
-    (λ c κs. (omega (arith, c .before .before .before .before .before .before .before .before .before .pre .0, c .before .before .before .before .before .before .if1 .left), tt))
-    (λ c. search needs)
+    (λ c. rw (element-field (c .before .before .before .before .before .before .before .before .before .args .s .now) (c .before .before .before .before .before .before .before .before .before .args .role) (c .before .before .before .before .before .before .before .before .before .args .at) (c .before .before .before .before .before .before .before .before .before .args .depth) (c .before .before .before .before .before .if2 .left) (c .before .before .before .before .if3 .taken)) (c .before .before .field .ensures .0, c .before .before .field .ensures .1))
     (λ c κs. search needs)
     (λ c. search needs)
     (λ c. search needs)
+    (λ c κs. (omega (arith, c .before .before .before .before .before .before .before .before .before .before .pre .0, c .before .before .before .before .before .before .if2 .left), tt))
     (λ c. search needs)
     (λ c κs. search needs)
     (λ c. search needs)
     (λ c. search needs)
-    (λ c. let done = done-read (contentAt (c .before .before .before .before .before .before .before .before .before .before .before .before .before .before .before .before .args .depth - 1) (c .before .before .before .before .before .before .before .before .before .before .before .before .before .before .before .before .args .s .now) (c .before .before .before .before .before .before .before .before .before .before .before .before .before .before .before .before .args .role) (c .before .before .before .before .before .before .before .before .before .inside .given .0 .1 .0)) (c .before .before .e .given .0 .0) (sym (c .before .before .before .before .before .before .content .ensures .0) ∙ c .before .before .e .given .1) in
-    rw (element-group (c .before .before .before .before .before .before .before .before .before .before .before .before .before .before .before .before .args .s .now) (c .before .before .before .before .before .before .before .before .before .before .before .before .before .before .before .before .args .role) (c .before .before .before .before .before .before .before .before .before .before .before .before .before .before .before .before .args .at) (c .before .before .before .before .before .before .before .before .before .before .before .before .before .before .before .before .args .depth) (c .before .before .before .before .before .before .before .before .before .before .before .before .before .if1 .left) (c .before .before .before .before .before .before .before .before .before .before .before .before .if2 .left)) (
-      c .close .ensures ∙ group-closed (c .before .before .before .before .before .before .before .before .before .before .before .before .before .before .before .before .args .depth - 1) (c .before .before .before .before .before .before .before .before .before .before .before .before .before .before .before .before .args .s .now) (c .before .before .before .before .before .before .before .before .before .before .before .before .before .before .before .before .args .role) (c .before .before .before .before .before .before .before .before .before .before .before .before .before .before .before .before .args .at) (c .before .before .before .before .before .before .before .before .before .inside .given .0 .0) (c .before .before .before .before .before .before .before .before .before .inside .given .0 .1 .0) (sym (c .before .before .before .before .before .before .before .before .before .before .before .start-from .ensures) ∙ c .before .before .before .before .before .before .before .before .before .inside .given .1) (c .before .before .e .given .0 .0) (done .forest) (done .was),
-      group-closed-noted (c .before .before .before .before .before .before .before .before .before .before .before .before .before .before .before .before .args .depth - 1) (c .before .before .before .before .before .before .before .before .before .before .before .before .before .before .before .before .args .s .now) (c .before .before .before .before .before .before .before .before .before .before .before .before .before .before .before .before .args .role) (c .before .before .before .before .before .before .before .before .before .before .before .before .before .before .before .before .args .at) (c .before .before .before .before .before .before .before .before .before .inside .given .0 .0) (c .before .before .before .before .before .before .before .before .before .inside .given .0 .1 .0) (sym (c .before .before .before .before .before .before .before .before .before .before .before .start-from .ensures) ∙ c .before .before .before .before .before .before .before .before .before .inside .given .1) (c .before .before .e .given .0 .0) (done .forest) (c .before .before .before .before .before .before .before .before .before .before .before .before .before .before .before .before .args .notes .now) _ (done .was) (c .before .before .before .before .before .before .content .ensures .1),
+    (λ c. search needs)
+    (λ c κs. search needs)
+    (λ c. search needs)
+    (λ c. search needs)
+    (λ c. let done = done-read (contentAt (c .before .before .before .before .before .before .before .before .before .before .before .before .before .before .before .before .before .args .depth - 1) (c .before .before .before .before .before .before .before .before .before .before .before .before .before .before .before .before .before .args .s .now) (c .before .before .before .before .before .before .before .before .before .before .before .before .before .before .before .before .before .args .role) (c .before .before .before .before .before .before .before .before .before .inside .given .0 .1 .0)) (c .before .before .e .given .0 .0) (sym (c .before .before .before .before .before .before .content .ensures .0) ∙ c .before .before .e .given .1) in
+    rw (element-group (c .before .before .before .before .before .before .before .before .before .before .before .before .before .before .before .before .before .args .s .now) (c .before .before .before .before .before .before .before .before .before .before .before .before .before .before .before .before .before .args .role) (c .before .before .before .before .before .before .before .before .before .before .before .before .before .before .before .before .before .args .at) (c .before .before .before .before .before .before .before .before .before .before .before .before .before .before .before .before .before .args .depth) (c .before .before .before .before .before .before .before .before .before .before .before .before .before .if2 .left) (c .before .before .before .before .before .before .before .before .before .before .before .before .if3 .left)) (
+      c .close .ensures ∙ group-closed (c .before .before .before .before .before .before .before .before .before .before .before .before .before .before .before .before .before .args .depth - 1) (c .before .before .before .before .before .before .before .before .before .before .before .before .before .before .before .before .before .args .s .now) (c .before .before .before .before .before .before .before .before .before .before .before .before .before .before .before .before .before .args .role) (c .before .before .before .before .before .before .before .before .before .before .before .before .before .before .before .before .before .args .at) (c .before .before .before .before .before .before .before .before .before .inside .given .0 .0) (c .before .before .before .before .before .before .before .before .before .inside .given .0 .1 .0) (sym (c .before .before .before .before .before .before .before .before .before .before .before .start-from .ensures) ∙ c .before .before .before .before .before .before .before .before .before .inside .given .1) (c .before .before .e .given .0 .0) (done .forest) (done .was),
+      group-closed-noted (c .before .before .before .before .before .before .before .before .before .before .before .before .before .before .before .before .before .args .depth - 1) (c .before .before .before .before .before .before .before .before .before .before .before .before .before .before .before .before .before .args .s .now) (c .before .before .before .before .before .before .before .before .before .before .before .before .before .before .before .before .before .args .role) (c .before .before .before .before .before .before .before .before .before .before .before .before .before .before .before .before .before .args .at) (c .before .before .before .before .before .before .before .before .before .inside .given .0 .0) (c .before .before .before .before .before .before .before .before .before .inside .given .0 .1 .0) (sym (c .before .before .before .before .before .before .before .before .before .before .before .start-from .ensures) ∙ c .before .before .before .before .before .before .before .before .before .inside .given .1) (c .before .before .e .given .0 .0) (done .forest) (c .before .before .before .before .before .before .before .before .before .before .before .before .before .before .before .before .before .args .notes .now) _ (done .was) (c .before .before .before .before .before .before .content .ensures .1),
     ))
     (λ c. search needs)
-    (λ c. rw (element-group (c .before .before .before .before .before .before .before .before .before .before .before .before .before .before .before .args .s .now) (c .before .before .before .before .before .before .before .before .before .before .before .before .before .before .before .args .role) (c .before .before .before .before .before .before .before .before .before .before .before .before .before .before .before .args .at) (c .before .before .before .before .before .before .before .before .before .before .before .before .before .before .before .args .depth) (c .before .before .before .before .before .before .before .before .before .before .before .before .if1 .left) (c .before .before .before .before .before .before .before .before .before .before .before .if2 .left), group-broken (c .before .before .before .before .before .before .before .before .before .before .before .before .before .before .before .args .depth - 1) (c .before .before .before .before .before .before .before .before .before .before .before .before .before .before .before .args .s .now) (c .before .before .before .before .before .before .before .before .before .before .before .before .before .before .before .args .role) (c .before .before .before .before .before .before .before .before .before .before .before .before .before .before .before .args .at) (c .before .before .before .before .before .before .before .before .inside .given .0 .0) (c .before .before .before .before .before .before .before .before .inside .given .0 .1 .0) (sym (c .before .before .before .before .before .before .before .before .before .before .start-from .ensures) ∙ c .before .before .before .before .before .before .before .before .inside .given .1) (c .before .p .given .0 .0) (form-broken (contentAt (c .before .before .before .before .before .before .before .before .before .before .before .before .before .before .before .args .depth - 1) (c .before .before .before .before .before .before .before .before .before .before .before .before .before .before .before .args .s .now) (c .before .before .before .before .before .before .before .before .before .before .before .before .before .before .before .args .role) (c .before .before .before .before .before .before .before .before .inside .given .0 .1 .0)) (c .before .p .given .0 .0) (sym (c .before .before .before .before .before .content .ensures .0) ∙ c .before .p .given .1))) (refl, tt))
+    (λ c. rw (element-group (c .before .before .before .before .before .before .before .before .before .before .before .before .before .before .before .before .args .s .now) (c .before .before .before .before .before .before .before .before .before .before .before .before .before .before .before .before .args .role) (c .before .before .before .before .before .before .before .before .before .before .before .before .before .before .before .before .args .at) (c .before .before .before .before .before .before .before .before .before .before .before .before .before .before .before .before .args .depth) (c .before .before .before .before .before .before .before .before .before .before .before .before .if2 .left) (c .before .before .before .before .before .before .before .before .before .before .before .if3 .left), group-broken (c .before .before .before .before .before .before .before .before .before .before .before .before .before .before .before .before .args .depth - 1) (c .before .before .before .before .before .before .before .before .before .before .before .before .before .before .before .before .args .s .now) (c .before .before .before .before .before .before .before .before .before .before .before .before .before .before .before .before .args .role) (c .before .before .before .before .before .before .before .before .before .before .before .before .before .before .before .before .args .at) (c .before .before .before .before .before .before .before .before .inside .given .0 .0) (c .before .before .before .before .before .before .before .before .inside .given .0 .1 .0) (sym (c .before .before .before .before .before .before .before .before .before .before .start-from .ensures) ∙ c .before .before .before .before .before .before .before .before .inside .given .1) (c .before .p .given .0 .0) (form-broken (contentAt (c .before .before .before .before .before .before .before .before .before .before .before .before .before .before .before .before .args .depth - 1) (c .before .before .before .before .before .before .before .before .before .before .before .before .before .before .before .before .args .s .now) (c .before .before .before .before .before .before .before .before .before .before .before .before .before .before .before .before .args .role) (c .before .before .before .before .before .before .before .before .inside .given .0 .1 .0)) (c .before .p .given .0 .0) (sym (c .before .before .before .before .before .content .ensures .0) ∙ c .before .p .given .1))) (refl, tt))
     (λ c. search needs)
-    (λ c. rw (element-group (c .before .before .before .before .before .before .before .before .before .before .before .before .before .before .before .args .s .now) (c .before .before .before .before .before .before .before .before .before .before .before .before .before .before .before .args .role) (c .before .before .before .before .before .before .before .before .before .before .before .before .before .before .before .args .at) (c .before .before .before .before .before .before .before .before .before .before .before .before .before .before .before .args .depth) (c .before .before .before .before .before .before .before .before .before .before .before .before .if1 .left) (c .before .before .before .before .before .before .before .before .before .before .before .if2 .left), group-deep (c .before .before .before .before .before .before .before .before .before .before .before .before .before .before .before .args .depth - 1) (c .before .before .before .before .before .before .before .before .before .before .before .before .before .before .before .args .s .now) (c .before .before .before .before .before .before .before .before .before .before .before .before .before .before .before .args .role) (c .before .before .before .before .before .before .before .before .before .before .before .before .before .before .before .args .at) (c .before .before .before .before .before .before .before .before .inside .given .0 .0) (c .before .before .before .before .before .before .before .before .inside .given .0 .1 .0) (sym (c .before .before .before .before .before .before .before .before .before .before .start-from .ensures) ∙ c .before .before .before .before .before .before .before .before .inside .given .1) (c .before .p2 .given .0 .0) (deep-deep (contentAt (c .before .before .before .before .before .before .before .before .before .before .before .before .before .before .before .args .depth - 1) (c .before .before .before .before .before .before .before .before .before .before .before .before .before .before .before .args .s .now) (c .before .before .before .before .before .before .before .before .before .before .before .before .before .before .before .args .role) (c .before .before .before .before .before .before .before .before .inside .given .0 .1 .0)) (c .before .p2 .given .0 .0) (sym (c .before .before .before .before .before .content .ensures .0) ∙ c .before .p2 .given .1))) (refl, tt))
+    (λ c. rw (element-group (c .before .before .before .before .before .before .before .before .before .before .before .before .before .before .before .before .args .s .now) (c .before .before .before .before .before .before .before .before .before .before .before .before .before .before .before .before .args .role) (c .before .before .before .before .before .before .before .before .before .before .before .before .before .before .before .before .args .at) (c .before .before .before .before .before .before .before .before .before .before .before .before .before .before .before .before .args .depth) (c .before .before .before .before .before .before .before .before .before .before .before .before .if2 .left) (c .before .before .before .before .before .before .before .before .before .before .before .if3 .left), group-deep (c .before .before .before .before .before .before .before .before .before .before .before .before .before .before .before .before .args .depth - 1) (c .before .before .before .before .before .before .before .before .before .before .before .before .before .before .before .before .args .s .now) (c .before .before .before .before .before .before .before .before .before .before .before .before .before .before .before .before .args .role) (c .before .before .before .before .before .before .before .before .before .before .before .before .before .before .before .before .args .at) (c .before .before .before .before .before .before .before .before .inside .given .0 .0) (c .before .before .before .before .before .before .before .before .inside .given .0 .1 .0) (sym (c .before .before .before .before .before .before .before .before .before .before .start-from .ensures) ∙ c .before .before .before .before .before .before .before .before .inside .given .1) (c .before .p2 .given .0 .0) (deep-deep (contentAt (c .before .before .before .before .before .before .before .before .before .before .before .before .before .before .before .before .args .depth - 1) (c .before .before .before .before .before .before .before .before .before .before .before .before .before .before .before .before .args .s .now) (c .before .before .before .before .before .before .before .before .before .before .before .before .before .before .before .before .args .role) (c .before .before .before .before .before .before .before .before .inside .given .0 .1 .0)) (c .before .p2 .given .0 .0) (sym (c .before .before .before .before .before .content .ensures .0) ∙ c .before .p2 .given .1))) (refl, tt))
     (λ c. search needs)
-    (λ c. rw (element-group (c .before .before .before .before .before .before .before .before .before .before .before .before .args .s .now) (c .before .before .before .before .before .before .before .before .before .before .before .before .args .role) (c .before .before .before .before .before .before .before .before .before .before .before .before .args .at) (c .before .before .before .before .before .before .before .before .before .before .before .before .args .depth) (c .before .before .before .before .before .before .before .before .before .if1 .left) (c .before .before .before .before .before .before .before .before .if2 .left), group-empty (c .before .before .before .before .before .before .before .before .before .before .before .before .args .depth - 1) (c .before .before .before .before .before .before .before .before .before .before .before .before .args .s .now) (c .before .before .before .before .before .before .before .before .before .before .before .before .args .role) (c .before .before .before .before .before .before .before .before .before .before .before .before .args .at) (c .before .before .before .before .before .next .given .0 .0) (c .before .before .before .before .before .next .given .0 .1 .0) (sym (c .before .before .before .before .before .before .before .start-from .ensures) ∙ c .before .before .before .before .before .next .given .1)) (refl, c .before .before .note-bare .ensures ∙ bare-noted (c .before .before .before .before .before .before .before .before .before .before .before .before .args .role) (c .before .before .before .before .before .before .before .before .before .before .before .before .args .at) (c .before .before .before .before .before .before .before .before .before .before .before .before .args .notes .now)))
-    (λ c. rw (element-group (c .before .before .before .before .before .before .before .before .args .s .now) (c .before .before .before .before .before .before .before .before .args .role) (c .before .before .before .before .before .before .before .before .args .at) (c .before .before .before .before .before .before .before .before .args .depth) (c .before .before .before .before .before .if1 .left) (c .before .before .before .before .if2 .left), group-faulty (c .before .before .before .before .before .before .before .before .args .depth - 1) (c .before .before .before .before .before .before .before .before .args .s .now) (c .before .before .before .before .before .before .before .before .args .role) (c .before .before .before .before .before .before .before .before .args .at) (c .before .p3 .given .0 .0) (sym (c .before .before .before .start-from .ensures) ∙ c .before .p3 .given .1)) (refl, tt))
+    (λ c. rw (element-group (c .before .before .before .before .before .before .before .before .before .before .before .before .before .args .s .now) (c .before .before .before .before .before .before .before .before .before .before .before .before .before .args .role) (c .before .before .before .before .before .before .before .before .before .before .before .before .before .args .at) (c .before .before .before .before .before .before .before .before .before .before .before .before .before .args .depth) (c .before .before .before .before .before .before .before .before .before .if2 .left) (c .before .before .before .before .before .before .before .before .if3 .left), group-empty (c .before .before .before .before .before .before .before .before .before .before .before .before .before .args .depth - 1) (c .before .before .before .before .before .before .before .before .before .before .before .before .before .args .s .now) (c .before .before .before .before .before .before .before .before .before .before .before .before .before .args .role) (c .before .before .before .before .before .before .before .before .before .before .before .before .before .args .at) (c .before .before .before .before .before .next .given .0 .0) (c .before .before .before .before .before .next .given .0 .1 .0) (sym (c .before .before .before .before .before .before .before .start-from .ensures) ∙ c .before .before .before .before .before .next .given .1)) (refl, c .before .before .note-bare .ensures ∙ bare-noted (c .before .before .before .before .before .before .before .before .before .before .before .before .before .args .role) (c .before .before .before .before .before .before .before .before .before .before .before .before .before .args .at) (c .before .before .before .before .before .before .before .before .before .before .before .before .before .args .notes .now)))
+    (λ c. rw (element-group (c .before .before .before .before .before .before .before .before .before .args .s .now) (c .before .before .before .before .before .before .before .before .before .args .role) (c .before .before .before .before .before .before .before .before .before .args .at) (c .before .before .before .before .before .before .before .before .before .args .depth) (c .before .before .before .before .before .if2 .left) (c .before .before .before .before .if3 .left), group-faulty (c .before .before .before .before .before .before .before .before .before .args .depth - 1) (c .before .before .before .before .before .before .before .before .before .args .s .now) (c .before .before .before .before .before .before .before .before .before .args .role) (c .before .before .before .before .before .before .before .before .before .args .at) (c .before .p3 .given .0 .0) (sym (c .before .before .before .start-from .ensures) ∙ c .before .p3 .given .1)) (refl, tt))

@@ -1,9 +1,9 @@
--- `elements::too_deep` meets its contract. Assumes nothing.
+-- `elements::over::too_deep` meets its contract. Assumes nothing.
 use mathlib.Core.Path.{_≡_, sym, _∙_}
 use borrow.Author.Needs.{needs}
 use borrow.Author.Tests.{lt-ltb, le-ltb}
-use Rattle.elements.proofs.too_deep.Statement.{statement}
-use Rattle.elements.proofs.too_deep.Tie as tie
+use Rattle.elements.proofs.over.too_deep.Statement.{statement}
+use Rattle.elements.proofs.over.too_deep.Tie as tie
 
 returns : tie.Need-returns
 returns c = rw (lt-ltb _ _ (c .before .before .before .if1 .taken), ← (c .before .before .byte-at .ensures), ← (c .before .name-starts .ensures), c .if2 .taken)

@@ -1,9 +1,9 @@
--- `elements::warn` meets its contract. Assumes nothing.
+-- `elements::notes::warn` meets its contract. Assumes nothing.
 use mathlib.Core.Path.{_≡_}
 use borrow.Author.Needs.{needs}
 use borrow.Author.Tests.{not-true, not-false}
-use Rattle.elements.proofs.warn.Statement.{statement}
-use Rattle.elements.proofs.warn.Tie as tie
+use Rattle.elements.proofs.notes.warn.Statement.{statement}
+use Rattle.elements.proofs.notes.warn.Tie as tie
 
 returns : tie.Need-returns
 returns c = rw (not-true (c .before .before .args .lack) (c .if1 .taken))

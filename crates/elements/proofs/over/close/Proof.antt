@@ -1,8 +1,8 @@
--- `elements::close` meets its contract. Assumes nothing.
+-- `elements::over::close` meets its contract. Assumes nothing.
 use mathlib.Core.Path.{_≡_, sym, _∙_}
 use borrow.Author.Needs.{needs}
-use Rattle.elements.proofs.close.Statement.{statement}
-use Rattle.elements.proofs.close.Tie as tie
+use Rattle.elements.proofs.over.close.Statement.{statement}
+use Rattle.elements.proofs.over.close.Tie as tie
 
 returns : tie.Need-returns
 returns c = rw (sym (c .before .before .before .end-from .ensures) ∙ c .before .n .given .1)

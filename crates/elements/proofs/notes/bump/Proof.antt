@@ -1,8 +1,8 @@
--- `elements::bump` meets its contract. Assumes nothing.
+-- `elements::notes::bump` meets its contract. Assumes nothing.
 use mathlib.Core.Path.{_≡_}
 use native.Mathlib.Omega.{arith}
-use Rattle.elements.proofs.bump.Statement.{statement}
-use Rattle.elements.proofs.bump.Tie as tie
+use Rattle.elements.proofs.notes.bump.Statement.{statement}
+use Rattle.elements.proofs.notes.bump.Tie as tie
 
 returns : tie.Need-returns
 returns c = omega (arith, c .if1 .taken)

@@ -1,9 +1,9 @@
--- `elements::put_note` meets its contract. Assumes nothing.
+-- `elements::notes::put_note` meets its contract. Assumes nothing.
 use mathlib.Core.Path.{_≡_, sym}
 use borrow.Author.Needs.{needs}
 use Rattle.elements.proofs.Forests.{set-past}
-use Rattle.elements.proofs.put_note.Statement.{statement}
-use Rattle.elements.proofs.put_note.Tie as tie
+use Rattle.elements.proofs.notes.put_note.Statement.{statement}
+use Rattle.elements.proofs.notes.put_note.Tie as tie
 
 returns-2 : tie.Need-returns-2
 returns-2 c = sym (set-past (c .before .args .notes .now) (c .before .args .k) (c .before .args .v) (c .if1 .left))

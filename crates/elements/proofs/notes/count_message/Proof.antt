@@ -1,9 +1,9 @@
--- `elements::count_message` meets its contract. Assumes nothing.
+-- `elements::notes::count_message` meets its contract. Assumes nothing.
 use mathlib.Core.Path.{_≡_}
 use borrow.Author.Needs.{needs}
 use borrow.Author.Tests.{not-true, not-false}
-use Rattle.elements.proofs.count_message.Statement.{statement}
-use Rattle.elements.proofs.count_message.Tie as tie
+use Rattle.elements.proofs.notes.count_message.Statement.{statement}
+use Rattle.elements.proofs.notes.count_message.Tie as tie
 
 returns : tie.Need-returns
 returns c = rw (not-true (c .before .before .args .message) (c .if1 .taken))

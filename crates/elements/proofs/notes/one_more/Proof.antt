@@ -1,10 +1,10 @@
--- `elements::one_more` meets its contract. Assumes nothing.
+-- `elements::notes::one_more` meets its contract. Assumes nothing.
 use mathlib.Core.Path.{_≡_}
 use native.Mathlib.Numerals.{add-one}
 use borrow.Author.Needs.{needs}
 use borrow.Author.Tests.{lt-ltb, le-ltb}
-use Rattle.elements.proofs.one_more.Statement.{statement}
-use Rattle.elements.proofs.one_more.Tie as tie
+use Rattle.elements.proofs.notes.one_more.Statement.{statement}
+use Rattle.elements.proofs.notes.one_more.Tie as tie
 
 returns : tie.Need-returns
 returns c = rw (lt-ltb (c .before .args .n) 4294967296 (c .if1 .taken), add-one)

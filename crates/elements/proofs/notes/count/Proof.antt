@@ -1,10 +1,10 @@
--- `elements::count` meets its contract. Assumes nothing.
+-- `elements::notes::count` meets its contract. Assumes nothing.
 use mathlib.Core.Path.{_≡_, sym, _∙_}
 use borrow.Author.Needs.{needs}
 use borrow.Author.Tests.{eq-eqb, ne-eqb}
 use Rattle.elements.proofs.Forests.{set-past}
-use Rattle.elements.proofs.count.Statement.{statement}
-use Rattle.elements.proofs.count.Tie as tie
+use Rattle.elements.proofs.notes.count.Statement.{statement}
+use Rattle.elements.proofs.notes.count.Tie as tie
 
 returns : tie.Need-returns
 returns c = rw (eq-eqb _ _ (c .if1 .taken))

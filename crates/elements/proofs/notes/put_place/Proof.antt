@@ -1,9 +1,9 @@
--- `elements::put_place` meets its contract. Assumes nothing.
+-- `elements::notes::put_place` meets its contract. Assumes nothing.
 use mathlib.Core.Path.{_≡_}
 use borrow.Author.Needs.{needs}
 use borrow.Author.Tests.{lt-ltb, le-ltb}
-use Rattle.elements.proofs.put_place.Statement.{statement}
-use Rattle.elements.proofs.put_place.Tie as tie
+use Rattle.elements.proofs.notes.put_place.Statement.{statement}
+use Rattle.elements.proofs.notes.put_place.Tie as tie
 
 returns : tie.Need-returns
 returns c = rw (le-ltb (c .before .before .args .role) 34 (c .if1 .taken))

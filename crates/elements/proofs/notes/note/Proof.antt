@@ -1,10 +1,10 @@
--- `elements::note` meets its contract. Assumes nothing.
+-- `elements::notes::note` meets its contract. Assumes nothing.
 use mathlib.Core.Path.{_≡_, sym, _∙_}
 use borrow.Author.Needs.{needs}
 use borrow.Author.Tests.{eq-eqb, ne-eqb}
 use Rattle.elements.specs.Notes.{noting}
-use Rattle.elements.proofs.note.Statement.{statement}
-use Rattle.elements.proofs.note.Tie as tie
+use Rattle.elements.proofs.notes.note.Statement.{statement}
+use Rattle.elements.proofs.notes.note.Tie as tie
 
 returns : tie.Need-returns
 unfolding noting
