@@ -1,23 +1,15 @@
 -- The law of a byte of a name: the order of the tests does not matter. Assumes nothing.
-use mathlib.Core.Path.{_≡_, refl, sym, _∙_}
+use mathlib.Core.Path.{_≡_, refl, sym}
 use mathlib.Core.Bool.{Bool, true, false, cond, not, _||_}
-use mathlib.Core.List.{List, [], _∷_}
-use Prim.Native.Nat.{ℕ, suc, _+_, _-_, _≤_, _<_}
-use native.Mathlib.Numerals.{add-one}
+use Prim.Native.Nat.{ℕ, _<_}
 use native.Mathlib.Omega.{arith}
 use lib.Dec.{eqb}
-use lib.ListN.{length, drop-of-length-le}
-use lib.Seq.{drop-cons}
-use borrow.Author.Tests.{eq-eqb, ne-eqb}
 use Rattle.wire.specs.Places.{everyFrom}
 use Rattle.wire.proofs.Scans.{every-holds}
-use Rattle.letters.specs.Places.{within, byteAt, matches, expected}
-use Rattle.letters.specs.declared.Reach.the-variants.{To, Broken}
-use Rattle.letters.proofs.Scans.{run-on, run-stops, run-ends}
-use Rattle.tags.specs.Names.{nameStart, nameByte, nameEnd, nameAt}
+use Rattle.letters.specs.Places.{within}
+use Rattle.tags.specs.Names.{nameStart, nameByte}
 
--- ---- a byte of a name, with the letters asked for last
-
+-- a byte of a name, with the letters asked for last
 abbrev pub inName : ℕ → Bool
 inName b = eqb b 45 || eqb b 46 || within 48 57 b || eqb b 58 || eqb b 95 || within 97 122 b || within 65 90 b
 

@@ -1,9 +1,8 @@
 -- `tags::ends::name_again` meets its contract: what is left of the name, from the place reached on, comes to what the whole does. Assumes nothing.
-use mathlib.Core.Path.{_≡_, refl, sym, _∙_}
+use mathlib.Core.Path.{_≡_, sym, _∙_}
 use Prim.Native.Nat.{_+_, _-_, _≤_}
 use native.Mathlib.Nat.{add-zero}
 use native.Mathlib.Omega.{arith}
-use lib.ListN.{length}
 use borrow.Author.Needs.{needs}
 use Rattle.letters.specs.Places.{between, expected}
 use Rattle.letters.proofs.Scans.{run-inside, again-ends, again-short, again-differs, again-on}
