@@ -1,6 +1,6 @@
 -- The laws of bytes, runs and words: what a loop at a place has left comes to what the whole comes to. Assumes nothing.
 use mathlib.Core.Path.{_≡_, refl, sym, _∙_}
-use mathlib.Core.Bool.{Bool, true, false, cond}
+use mathlib.Core.Bool.{Bool, true, false, cond, not}
 use mathlib.Core.List.{List, [], _∷_}
 use Prim.Native.Nat.{ℕ, zero, suc, _+_, _-_, _≤_, _<_}
 use native.Mathlib.Nat.{add-zero}
@@ -8,7 +8,7 @@ use native.Mathlib.Numerals.{add-one}
 use native.Mathlib.Omega.{arith}
 use lib.ListN.{length, drop, getD, length-drop, drop-of-length-le, List·getD-eq-default}
 use lib.Seq.{drop-cons, getD-drop}
-use borrow.Author.Tests.{eq-eqb, ne-eqb}
+use borrow.Author.Tests.{eq-eqb, ne-eqb, not-true, not-false}
 use Rattle.letters.specs.Places.{byteAt, run, runEnd, between, matches, expected}
 use Rattle.letters.specs.declared.Reach.the-variants.{To, Broken}
 
@@ -39,8 +39,20 @@ module _ (f : ℕ → Bool) (s : List ℕ) (i : ℕ) where
   unfolding run
   run-ends h = rw (drop-of-length-le s h) (omega arith)
 
--- a run ends in the text, if it is one
-run-within : (f : ℕ → Bool) (t : List ℕ) → run f t ≤ length t
+-- a loop at place i of a run that ends at place end, by what the code's test of the byte there came to
+module _ (f : ℕ → Bool) (s : List ℕ) (i end : ℕ) (left : runEnd f s i ≡ end) where
+  module _ (h : i < length s) (t : Bool) (tested : t ≡ f (getD s i 0)) where
+    pub loop-stops : not t ≡ true → i ≡ end
+    loop-stops out = run-stops f s i h (sym tested ∙ not-true t out) ∙ left
+
+    pub loop-goes-on : not t ≡ false → runEnd f s (i + 1) ≡ end
+    loop-goes-on in-run = run-on f s i h (sym tested ∙ not-false t in-run) ∙ left
+
+  pub loop-ends : length s ≤ i → i ≡ end
+  loop-ends past = run-ends f s i past ∙ left
+
+-- a run is no longer than the text, and ends in it
+pub run-within : (f : ℕ → Bool) (t : List ℕ) → run f t ≤ length t
 unfolding run
 run-within f [] = omega arith
 run-within f (b ∷ bs) = by-test (run-within f bs) (f b)
