@@ -36,14 +36,17 @@ unfolding beside
 beside-beside none g h = refl
 beside-beside (tree role place inner rest) g h = ap (λ (r : Forest). tree role place inner r) (beside-beside rest g h)
 
--- what is read with nothing before it, and with two parts before it
-pub nothing-yet : (r : Parsed) → r ≡ onRead r (λ e g. read e (beside none g))
+-- what was read so far, beside what is read of the rest
+abbrev pub behind : Forest → Parsed → Parsed
+behind sofar r = onRead r (λ e g. read e (beside sofar g))
+
+pub nothing-yet : (r : Parsed) → r ≡ behind none r
 unfolding beside
 nothing-yet (read e g) = refl
 nothing-yet (broken p) = refl
 nothing-yet (deep p) = refl
 
-pub further : (sofar f : Forest) (r : Parsed) → onRead (onRead r (λ e g. read e (beside f g))) (λ e g. read e (beside sofar g)) ≡ onRead r (λ e g. read e (beside (beside sofar f) g))
+pub further : (sofar f : Forest) (r : Parsed) → behind sofar (behind f r) ≡ behind (beside sofar f) r
 further sofar f (read e g) = ap (λ (h : Forest). read e h) (sym (beside-beside sofar f g))
 further sofar f (broken p) = refl
 further sofar f (deep p) = refl

@@ -96,15 +96,6 @@ run-digits (x ∷ xs) = by-test (run-digits xs) (digit x) refl
     by-test rest true e = digits-cons x (take (run digit xs) xs) ∙ (rw (e, rest))
     by-test rest false e = digits-none
 
-pub run-within : (t : List ℕ) → run digit t ≤ length t
-unfolding run
-run-within [] = omega arith
-run-within (x ∷ xs) = by-test (digit x) (run-within xs)
-  where
-    by-test : (t : Bool) → run digit xs ≤ length xs → cond t (suc (run digit xs)) 0 ≤ suc (length xs)
-    by-test true h = omega arith
-    by-test false h = omega arith
-
 -- ---- the number
 
 from-append : (v : ℕ) (xs ys : List ℕ) → numeralFrom 10 v (xs ++ ys) ≡ numeralFrom 10 (numeralFrom 10 v xs) ys

@@ -12,7 +12,7 @@ use Rattle.wire.proofs.Texts.{same-equal}
 use Rattle.letters.specs.Places.{byteAt, run, onReach}
 use Rattle.letters.specs.References.{stands}
 use Rattle.letters.specs.declared.Reach.the-variants.{To}
-use Rattle.letters.proofs.Scans.{byte-there, run-stops}
+use Rattle.letters.proofs.Scans.{byte-there, run-stops, run-within}
 use Rattle.letters.proofs.Walks.{went}
 use Rattle.letters.proofs.References.{stands-there, stands-differs}
 use Rattle.tags.specs.Names.{isSpace, nameStart, spaceEnd}
@@ -23,17 +23,8 @@ use Rattle.prolog.proofs.Prologs.{closed, fromStandalone, fromEncoding,
 
 -- ---- it ends in the text
 
-run-short : (f : ℕ → Bool) (t : List ℕ) → run f t ≤ length t
-unfolding run
-run-short f [] = omega arith
-run-short f (b ∷ bs) = by-test (run-short f bs) (f b)
-  where
-    by-test : run f bs ≤ length bs → (t : Bool) → cond t (suc (run f bs)) 0 ≤ suc (length bs)
-    by-test h true = omega arith
-    by-test h false = omega arith
-
 space-inside : (s : List ℕ) (at : ℕ) → at ≤ length s → spaceEnd s at ≤ length s
-space-inside s at h = omega (arith, run-short isSpace (drop at s), length-drop at s)
+space-inside s at h = omega (arith, run-within isSpace (drop at s), length-drop at s)
 
 module _ (s : List ℕ) where
   declaration-inside : (at n : ℕ) → declarationAt s at ≡ To n → n ≤ length s

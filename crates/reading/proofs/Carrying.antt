@@ -9,40 +9,14 @@ use lib.ListN.{length, getD, set, replicate, length-set}
 use lib.Seq.{sets, length-sets, getD-set-same, getD-set-other}
 use borrow.Author.Tests.{eqb-true, eqb-false}
 use Rattle.paths.specs.Roles as roles
-use Rattle.records.specs.Records.{Places, headerOf, messageOf}
+use Rattle.records.specs.Records.{messageOf}
+use Rattle.records.proofs.Laws.{message-alike}
 use Rattle.elements.specs.Forest.{Forest, none, tree, beside}
 use Rattle.elements.specs.Notes.{noted}
 use Rattle.elements.specs.Questions.{placeIn}
 use Rattle.elements.proofs.Noting.{noted-place}
 use Rattle.reading.specs.Meaning.{placesIn}
 use Rattle.reading.specs.Filling.{noteCount, forgotten, Carried}
-
--- ---- a header and a message look at their own roles
-
-pub header-alike : (s : List ℕ) (places others : Places) → ((k : ℕ) → 0 < k → k < roles.identifier → places k ≡ others k) → headerOf s places ≡ headerOf s others
-unfolding headerOf
-header-alike s places others alike = rw (
-  alike roles.payments (lit< tt) (lit< tt),
-  alike roles.bulkIdentifier (lit< tt) (lit< tt),
-  alike roles.sender (lit< tt) (lit< tt),
-  alike roles.statedNumber (lit< tt) (lit< tt),
-  alike roles.statedSum (lit< tt) (lit< tt),
-  alike roles.valueDate (lit< tt) (lit< tt),
-  alike roles.method (lit< tt) (lit< tt),
-  alike roles.system (lit< tt) (lit< tt),
-  alike roles.recipient (lit< tt) (lit< tt),
-)
-
-pub message-alike : (s : List ℕ) (places others : Places) → ((k : ℕ) → roles.sender < k → k < roles.roles → places k ≡ others k) → messageOf s places ≡ messageOf s others
-unfolding messageOf
-message-alike s places others alike = rw (
-  alike roles.identifier (lit< tt) (lit< tt),
-  alike roles.receiver (lit< tt) (lit< tt),
-  alike roles.amount (lit< tt) (lit< tt),
-  alike roles.originalAmount (lit< tt) (lit< tt),
-  alike roles.reason (lit< tt) (lit< tt),
-  alike roles.originalName (lit< tt) (lit< tt),
-)
 
 -- ---- notes of what is read one after the other
 

@@ -16,13 +16,9 @@ use Rattle.elements.specs.Questions.{placeIn, messagesIn}
 use Rattle.reading.specs.Meaning.{placesIn, bulkIn}
 use Rattle.reading.specs.Filling.{messagesBytes, Ready, Filled, HeaderNoted, Placed, PutWhole}
 use Rattle.reading.specs.declared.filling.Put.{Put}
-use Rattle.reading.proofs.Carrying.{header-alike}
+use Rattle.records.proofs.Laws.{header-alike}
+use Rattle.elements.proofs.Forests.{zeros}
 use Rattle.reading.proofs.Sheets.{map-length}
-
-zeros : (n k : ℕ) → getD {A = ℕ} (replicate n 0) k 0 ≡ 0
-zeros zero k = refl
-zeros (suc n) zero = refl
-zeros (suc n) (suc k) = zeros n k
 
 module _ (s : List ℕ) (p : Parsed) (i h m : ℕ) (d : List ℕ) (placed : Placed s p i h m d) where
   abbrev f : Forest

@@ -26,7 +26,7 @@ use Rattle.reading.specs.Filling.{section, Placed, PutWhole, Fitting, Pu
 use Rattle.reading.specs.declared.filling.Put.{Put}
 use Rattle.reading.proofs.Roots.{roots-end, roots-odd, roots-document}
 use Rattle.reading.proofs.Surveys.{Root, root-told, bulks-beside}
-use Rattle.reading.proofs.Sofar.{behind, nothing-yet, further}
+use Rattle.elements.proofs.Forests.{behind, nothing-yet, further}
 use Rattle.reading.proofs.Sheets.{headers, sections, section-length, headers-length, parts-length, sheet-length}
 
 -- ---- bulks one after the other

@@ -20,7 +20,7 @@ use Rattle.elements.proofs.Forward.{went, Onward, content-broken, content-ends,
 use Rattle.elements.proofs.Calm.{messages-beside}
 use Rattle.reading.specs.Filling.{messageBytes, messagesBytes, Carried, Ready, Filled, HeaderNoted}
 use Rattle.reading.specs.declared.filling.Put.{Put}
-use Rattle.reading.proofs.Sofar.{behind, nothing-yet, further}
+use Rattle.elements.proofs.Forests.{behind, nothing-yet, further}
 use Rattle.reading.proofs.Sheets.{messages-length}
 use Rattle.reading.proofs.Carrying.{carried-none, carried-on}
 

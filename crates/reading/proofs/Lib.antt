@@ -1,6 +1,5 @@
 pub mod Looks
 pub mod Roots
-pub mod Sofar
 pub mod Surveys
 pub mod Sheets
 pub mod Carrying

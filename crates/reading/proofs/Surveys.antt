@@ -23,7 +23,7 @@ use Rattle.reading.specs.Meaning.{bulkIn, bulksIn, countable, allCountab
 use Rattle.reading.specs.Survey.{messageCount, Looked, cost, needed, enough, takenOf}
 use Rattle.reading.specs.declared.survey.Seen.{Seen}
 use Rattle.reading.specs.declared.survey.Room.{Room}
-use Rattle.reading.proofs.Sofar.{behind, nothing-yet, further}
+use Rattle.elements.proofs.Forests.{behind, nothing-yet, further}
 use Rattle.reading.proofs.Roots.{document-onward, roots-end, roots-odd, roots-document}
 
 -- ---- two forests one after the other

@@ -97,33 +97,32 @@ module _ (s : List ℕ) (places : Places) where
   unfolding messageOf
   message-length = longer reasoned sheet.namePlace roles.originalName reasoned-length
 
--- ---- the places of the roles tell all
+-- ---- a header and a message look at their own roles
 
-module _ (s : List ℕ) (places others : Places) (alike : (k : ℕ) → 0 < k → k < roles.roles → places k ≡ others k) where
-  pub header-alike : headerOf s places ≡ headerOf s others
-  unfolding headerOf
-  header-alike = rw (
-    alike roles.payments (lit< tt) (lit< tt),
-    alike roles.bulkIdentifier (lit< tt) (lit< tt),
-    alike roles.sender (lit< tt) (lit< tt),
-    alike roles.statedNumber (lit< tt) (lit< tt),
-    alike roles.statedSum (lit< tt) (lit< tt),
-    alike roles.valueDate (lit< tt) (lit< tt),
-    alike roles.method (lit< tt) (lit< tt),
-    alike roles.system (lit< tt) (lit< tt),
-    alike roles.recipient (lit< tt) (lit< tt),
-  )
+pub header-alike : (s : List ℕ) (places others : Places) → ((k : ℕ) → 0 < k → k < roles.identifier → places k ≡ others k) → headerOf s places ≡ headerOf s others
+unfolding headerOf
+header-alike s places others alike = rw (
+  alike roles.payments (lit< tt) (lit< tt),
+  alike roles.bulkIdentifier (lit< tt) (lit< tt),
+  alike roles.sender (lit< tt) (lit< tt),
+  alike roles.statedNumber (lit< tt) (lit< tt),
+  alike roles.statedSum (lit< tt) (lit< tt),
+  alike roles.valueDate (lit< tt) (lit< tt),
+  alike roles.method (lit< tt) (lit< tt),
+  alike roles.system (lit< tt) (lit< tt),
+  alike roles.recipient (lit< tt) (lit< tt),
+)
 
-  pub message-alike : messageOf s places ≡ messageOf s others
-  unfolding messageOf
-  message-alike = rw (
-    alike roles.identifier (lit< tt) (lit< tt),
-    alike roles.receiver (lit< tt) (lit< tt),
-    alike roles.amount (lit< tt) (lit< tt),
-    alike roles.originalAmount (lit< tt) (lit< tt),
-    alike roles.reason (lit< tt) (lit< tt),
-    alike roles.originalName (lit< tt) (lit< tt),
-  )
+pub message-alike : (s : List ℕ) (places others : Places) → ((k : ℕ) → roles.sender < k → k < roles.roles → places k ≡ others k) → messageOf s places ≡ messageOf s others
+unfolding messageOf
+message-alike s places others alike = rw (
+  alike roles.identifier (lit< tt) (lit< tt),
+  alike roles.receiver (lit< tt) (lit< tt),
+  alike roles.amount (lit< tt) (lit< tt),
+  alike roles.originalAmount (lit< tt) (lit< tt),
+  alike roles.reason (lit< tt) (lit< tt),
+  alike roles.originalName (lit< tt) (lit< tt),
+)
 
 -- ---- the kind that a header tells, by its first byte
 

@@ -1,13 +1,14 @@
 -- `meanings::amount` meets its contract: what it tests is the form, all but the size. Assumes nothing.
 use native.Mathlib.Omega.{arith}
-use Rattle.meanings.proofs.Decimals.{run-within}
+use Rattle.letters.proofs.Scans.{run-within}
+use Rattle.meanings.specs.Meanings.{digit}
 use Rattle.meanings.proofs.Forms.{amount-wholes, amount-parts, amount-told, amount-nothing}
 use borrow.Author.Needs.{needs}
 use Rattle.meanings.proofs.amount.Statement.{statement}
 use Rattle.meanings.proofs.amount.Tie as tie
 
 add-text-at : tie.Need-add-text-at
-add-text-at c = let run = c .before .run .ensures in omega (arith, run-within (c .before .before .before .args .t .now))
+add-text-at c = let run = c .before .run .ensures in omega (arith, run-within digit (c .before .before .before .args .t .now))
 
 decimal-requires : tie.Need-decimal-requires
 decimal-requires c κs =
