@@ -1,0 +1,179 @@
+-- A spelled character stands for itself, at any place of a text. Assumes nothing.
+use mathlib.Core.Path.{_≡_, refl, sym, ap, _∙_}
+use mathlib.Core.Bool.{Bool, true, false, cond, not, _&&_, _||_, and-eq-true-iff, and-false, false≢true}
+use mathlib.Core.Logic.{_⊎_, inl, inr}
+use mathlib.Core.List.{List, [], _∷_, _++_}
+use Prim.Native.Nat.{ℕ, zero, suc, _+_, _-_, _≤_, _<_}
+use native.Mathlib.Nat.{add-sub-cancel-left}
+use native.Mathlib.Omega.{arith}
+use lib.Dec.{eqb, ltb}
+use lib.ListN.{length, take, drop, getD}
+use lib.Seq.{drop-drop, getD-drop}
+use borrow.Author.Tests.{eqb-true, lt-ltb, le-ltb, ne-eqb, not-true}
+use Rattle.wire.specs.Field.{text, part, same}
+use Rattle.wire.specs.Places.{everyFrom}
+use Rattle.wire.proofs.Scans.{every-holds}
+use Rattle.wire.proofs.Sides.{le-or-lt}
+use Rattle.letters.specs.Places.{byteAt, run, runEnd, between}
+use Rattle.letters.specs.Characters.{isCharacter, single}
+use Rattle.letters.specs.References.{digitOf, digitIn, numeralFrom, numeral, numbered, numberedAt, stands, referenceAt}
+use Rattle.letters.specs.declared.Reference.{Reference}
+use Rattle.letters.specs.declared.Reference.the-variants.{Stands, Nothing}
+use Rattle.decimals.specs.Decimal.{digitsOf, decimalIn, decimal}
+use Rattle.documents.specs.Spelling.{Way, itself, decimally, hexadecimally, byName, referred, decimalReference, hexadecimalReference, namedReference, spelledBy, Spelling, spelled}
+use Rattle.documents.proofs.Here.{all}
+
+-- ---- a reference by what is left of the text
+
+abbrev moved : ℕ → Reference → Reference
+moved at (Stands c next) = Stands c (at + next)
+moved at Nothing = Nothing
+
+-- a number, from whether there are digits, what is behind them, they, and the place after it
+abbrev numberedIf : ℕ → Bool → ℕ → List ℕ → ℕ → Reference
+numberedIf base some b digits next =
+    cond some (cond (eqb b 59) (cond (isCharacter (numeral base digits)) (Stands (numeral base digits) next) Nothing) Nothing) Nothing
+
+module _ (base at : ℕ) where
+  numbered-moved : (some other : Bool) (b c : ℕ) (xs ys : List ℕ) (m n : ℕ) → some ≡ other → b ≡ c → xs ≡ ys → m ≡ at + n
+      → numberedIf base some b xs m ≡ moved at (numberedIf base other c ys n)
+  numbered-moved some other b c xs ys m n p q r t = rw (p, q, r, t) (by-tests other (eqb c 59) (isCharacter (numeral base ys)))
+    where
+      by-tests : (t u v : Bool)
+          → cond t (cond u (cond v (Stands (numeral base ys) (at + n)) Nothing) Nothing) Nothing
+          ≡ moved at (cond t (cond u (cond v (Stands (numeral base ys) n) Nothing) Nothing) Nothing)
+      by-tests true true true = refl
+      by-tests true true false = refl
+      by-tests true false v = refl
+      by-tests false u v = refl
+
+more-moved : (a k w : ℕ) → ltb (a + k) (a + k + w) ≡ ltb k (k + w)
+more-moved a k zero = le-ltb (a + k) (a + k + 0) (omega arith) ∙ sym (le-ltb k (k + 0) (omega arith))
+more-moved a k (suc w) = lt-ltb (a + k) (a + k + suc w) (omega arith) ∙ sym (lt-ltb k (k + suc w) (omega arith))
+
+module _ (s : List ℕ) (at : ℕ) where
+  number-moved : (base k : ℕ) → numberedAt base s (at + k) ≡ moved at (numberedAt base (drop at s) k)
+  unfolding numberedAt
+  number-moved base k =
+      let w : ℕ = run (digitIn base) (drop (at + k) s) in
+      let v : ℕ = run (digitIn base) (drop k (drop at s)) in
+      let width : v ≡ w = ap (run (digitIn base)) (drop-drop k at s) in
+      let digits : between s (at + k) (at + k + w) ≡ between (drop at s) k (k + v) =
+      rw (width, add-sub-cancel-left (at + k) w, add-sub-cancel-left k w) (ap (take w) (sym (drop-drop k at s))) in
+      let place : at + k + w ≡ at + (k + v) = omega arith in
+      let behind : byteAt s (at + k + w) ≡ byteAt (drop at s) (k + v) = ap (byteAt s) place ∙ sym (getD-drop at s (k + v) 0) in
+      let some : ltb (at + k) (at + k + w) ≡ ltb k (k + v) = more-moved at k w ∙ ap (λ (n : ℕ). ltb k (k + n)) (sym width) in
+      numbered-moved base at _ _ _ _ _ _ _ _ some behind digits (omega arith)
+
+  pub reference-moved : referenceAt s at ≡ moved at (referenceAt (drop at s) 0)
+  unfolding referenceAt
+  reference-moved =
+      by-tests (stands s at (text "&lt;")) (stands s at (text "&gt;")) (stands s at (text "&amp;")) (stands s at (text "&apos;")) (stands s at (text "&quot;"))
+      (stands s at (text "&#x")) (stands s at (text "&#")) (numberedAt 16 s (at + 3)) (numberedAt 10 s (at + 2))
+      (numberedAt 16 (drop at s) 3) (numberedAt 10 (drop at s) 2) (number-moved 16 3) (number-moved 10 2)
+    where
+      by-tests : (a b c d e f g : Bool) (x y x' y' : Reference) → x ≡ moved at x' → y ≡ moved at y'
+          → cond a (Stands 60 (at + 4)) (cond b (Stands 62 (at + 4)) (cond c (Stands 38 (at + 5)) (cond d (Stands 39 (at + 6)) (cond e (Stands 34 (at + 6)) (cond f x (cond g y Nothing))))))
+          ≡ moved at (cond a (Stands 60 4) (cond b (Stands 62 4) (cond c (Stands 38 5) (cond d (Stands 39 6) (cond e (Stands 34 6) (cond f x' (cond g y' Nothing)))))))
+      by-tests true b c d e f g x y x' y' p q = refl
+      by-tests false true c d e f g x y x' y' p q = refl
+      by-tests false false true d e f g x y x' y' p q = refl
+      by-tests false false false true e f g x y x' y' p q = refl
+      by-tests false false false false true f g x y x' y' p q = refl
+      by-tests false false false false false true g x y x' y' p q = p
+      by-tests false false false false false false true x y x' y' p q = q
+      by-tests false false false false false false false x y x' y' p q = refl
+
+-- ---- the references of all characters of one byte, by computing
+
+abbrev standsFor : ℕ → ℕ → Reference → Bool
+standsFor c n (Stands d m) = eqb d c && eqb m n
+standsFor c n Nothing = false
+
+abbrev refers : (ℕ → List ℕ) → List ℕ → ℕ → Bool
+refers spell ys c = not (single c) || standsFor c (length (spell c)) (referenceAt (spell c ++ ys) 0)
+
+module _ (ys : List ℕ) where
+  all-decimal : everyFrom (refers decimalReference ys) 128 0 ≡ true
+  unfolding everyFrom same isCharacter run digitOf numeralFrom numberedAt referenceAt decimal decimalIn digitsOf
+  all-decimal = refl
+
+  all-hexadecimal : everyFrom (refers hexadecimalReference ys) 128 0 ≡ true
+  unfolding everyFrom same isCharacter run digitOf numeralFrom numberedAt referenceAt decimal decimalIn digitsOf
+  all-hexadecimal = refl
+
+  all-named : everyFrom (refers namedReference ys) 128 0 ≡ true
+  unfolding everyFrom same isCharacter run digitOf numeralFrom numberedAt referenceAt decimal decimalIn digitsOf
+  all-named = refl
+
+-- ---- one of them, at any place
+
+told-stands : (c n : ℕ) (r : Reference) → standsFor c n r ≡ true → r ≡ Stands c n
+told-stands c n (Stands d m) e =
+    let both = and-eq-true-iff (eqb d c) (eqb m n) .0 e in
+    rw (eqb-true d c (both .0), eqb-true m n (both .1))
+told-stands c n Nothing e = absurd (false≢true e)
+
+-- of a character the reference is one, and has no '>'
+module _ (spell : ℕ → List ℕ) (every : (ys : List ℕ) → everyFrom (refers spell ys) 128 0 ≡ true) (s : List ℕ) (at c : ℕ) (small : c < 128) (one : single c ≡ true) where
+  reference-here : (ys : List ℕ) → drop at s ≡ spell c ++ ys → referenceAt s at ≡ Stands c (at + length (spell c))
+  reference-here ys e =
+      let held : refers spell ys c ≡ true = every-holds (refers spell ys) 128 0 c (every ys) (omega arith) (omega arith) in
+      let here : standsFor c (length (spell c)) (referenceAt (spell c ++ ys) 0) ≡ true = rw one at held in
+      reference-moved s at ∙ (rw (e, told-stands c (length (spell c)) (referenceAt (spell c ++ ys) 0) here))
+
+-- a spelled character is one that may stand as it is, or a reference to it
+pub data Spelt (s : List ℕ) (at c : ℕ) (word : List ℕ) : Type 0 where
+  plain : word ≡ c ∷ [] → referred c ≡ false → Spelt s at c word
+  refers-to : referenceAt s at ≡ Stands c (at + length word) → Spelt s at c word
+
+pub spelt-here : (w : Way) (s : List ℕ) (at c : ℕ) (ys : List ℕ) → c < 128 → single c ≡ true → drop at s ≡ spelledBy w c ++ ys → Spelt s at c (spelledBy w c)
+unfolding spelledBy
+spelt-here itself s at c ys small one e = by-test (referred c) refl e
+  where
+    by-test : (t : Bool) → referred c ≡ t → drop at s ≡ cond t (decimalReference c) (c ∷ []) ++ ys → Spelt s at c (cond t (decimalReference c) (c ∷ []))
+    by-test true r e = refers-to (reference-here decimalReference all-decimal s at c small one ys e)
+    by-test false r e = plain refl r
+spelt-here decimally s at c ys small one e = refers-to (reference-here decimalReference all-decimal s at c small one ys e)
+spelt-here hexadecimally s at c ys small one e = refers-to (reference-here hexadecimalReference all-hexadecimal s at c small one ys e)
+spelt-here byName s at c ys small one e = refers-to (reference-here namedReference all-named s at c small one ys e)
+
+-- ---- no spelling has a '>', so that nothing spelled holds the end of a section
+
+abbrev unclosing : ℕ → Bool
+unclosing b = not (eqb b 62)
+
+every-open : (w : Way) → everyFrom (λ c. all unclosing (spelledBy w c)) 128 0 ≡ true
+unfolding everyFrom all spelledBy decimal decimalIn digitsOf
+every-open itself = refl
+every-open decimally = refl
+every-open hexadecimally = refl
+every-open byName = refl
+
+all-append : (f : ℕ → Bool) (xs ys : List ℕ) → all f xs ≡ true → all f ys ≡ true → all f (xs ++ ys) ≡ true
+unfolding all
+all-append f [] ys h k = k
+all-append f (x ∷ xs) ys h k =
+    let both = and-eq-true-iff (f x) (all f xs) .0 h in
+    rw (both .0) (all-append f xs ys (both .1) k)
+
+spelled-open : (how : Spelling) (t : List ℕ) → all unclosing (spelled how t) ≡ true
+unfolding spelled all
+spelled-open how [] = refl
+spelled-open how (b ∷ bs) = all-append unclosing (cond (ltb b 128) (spelledBy (how (b ∷ bs)) b) (b ∷ [])) (spelled how bs) (by-test (le-or-lt 128 b)) (spelled-open how bs)
+  where
+    by-test : (128 ≤ b) ⊎ (b < 128) → all unclosing (cond (ltb b 128) (spelledBy (how (b ∷ bs)) b) (b ∷ [])) ≡ true
+    by-test (inl big) = rw (le-ltb b 128 big, ne-eqb b 62 (λ z. omega arith))
+    by-test (inr small) = rw (lt-ltb b 128 small) (every-holds (λ c. all unclosing (spelledBy (how (b ∷ bs)) c)) 128 0 b (every-open (how (b ∷ bs))) (omega arith) (omega arith))
+
+unended : (xs ys : List ℕ) → all unclosing xs ≡ true → same (take 2 (xs ++ (60 ∷ ys))) (93 ∷ 62 ∷ []) ≡ false
+unfolding all same
+unended [] ys h = refl
+unended (x ∷ []) ys h = and-false (eqb x 93)
+unended (x ∷ y ∷ xs) ys h =
+    let rest = and-eq-true-iff (unclosing x) (unclosing y && all unclosing xs) .0 h .1 in
+    let not-end : eqb y 62 ≡ false = not-true (eqb y 62) (and-eq-true-iff (unclosing y) (all unclosing xs) .0 rest .0) in
+    rw not-end (and-false (eqb x 93))
+
+pub spelled-unended : (how : Spelling) (t ys : List ℕ) → same (take 2 (spelled how t ++ (60 ∷ ys))) (93 ∷ 62 ∷ []) ≡ false
+spelled-unended how t ys = unended (spelled how t) ys (spelled-open how t)

@@ -1,0 +1,73 @@
+-- The bulks that documents can carry. Assumes nothing.
+use Prim.Native.Nat.{ℕ, zero, suc, _^_, _<_}
+use mathlib.Core.Path.{_≡_}
+use mathlib.Core.Bool.{Bool, true, not, _&&_, _||_}
+use mathlib.Core.List.{List, [], _∷_}
+use lib.Dec.{eqb}
+use lib.ListN.{length, drop, replicate}
+use Rattle.wire.specs.Field.{Bytes}
+use Rattle.sheet.specs.Sheet.{Bulk, headerWidth, fieldsWidth, reasonWidth, nameWidth, paymentKind, knownKind, kindOf, bulkIdentifierOf, senderOf, statedNumberOf, statedSumOf, valueDateOf, marksOf, identifierOf, receiverOf, amountOf, originalOf, reasonOf, nameOf}
+use Rattle.letters.specs.Characters.{widthAt}
+
+-- ---- texts: characters of XML in UTF-8 and nothing else
+
+-- at most n of them
+unfoldable pub charactersBy : ℕ → List ℕ → Bool
+charactersBy zero t = eqb (length t) 0
+charactersBy (suc n) t = eqb (length t) 0 || (not (eqb (widthAt t 0) 0) && charactersBy n (drop (widthAt t 0) t))
+
+-- each takes a byte or more
+abbrev pub characters : List ℕ → Bool
+characters t = charactersBy (length t) t
+
+-- ---- a header: 15 digits write the stated number, 18 the sum in cents, 8 the date; there are three marks
+
+pub record CarriedHeader (header : List ℕ) : Type 0 where
+  pub width : length header ≡ headerWidth
+  pub bytes : Bytes header
+  pub kind : knownKind (kindOf header) ≡ true
+  pub identifier : characters (bulkIdentifierOf header) ≡ true
+  pub sender : characters (senderOf header) ≡ true
+  pub number : statedNumberOf header < 10 ^ 15
+  pub sum : statedSumOf header < 10 ^ 18
+  pub date : valueDateOf header < 10 ^ 8
+  pub marks : marksOf header < 8
+
+-- ---- a message of a bulk of a kind
+
+-- what a payment does not tell
+pub record NoOriginal (message : List ℕ) : Type 0 where
+  pub amount : originalOf message ≡ 0
+  pub reason : reasonOf message ≡ replicate reasonWidth 32
+  pub name : nameOf message ≡ replicate nameWidth 32
+
+pub record CarriedMessage (kind : ℕ) (message : List ℕ) : Type 0 where
+  pub width : length message ≡ fieldsWidth
+  pub bytes : Bytes message
+  pub identifier : characters (identifierOf message) ≡ true
+  pub receiver : characters (receiverOf message) ≡ true
+  pub amount : amountOf message < 10 ^ 18
+  pub original : originalOf message < 10 ^ 18
+  pub reason : characters (reasonOf message) ≡ true
+  pub name : characters (nameOf message) ≡ true
+  pub payment : kind ≡ paymentKind → NoOriginal message
+
+unfoldable pub CarriedMessages : ℕ → List (List ℕ) → Type 0
+CarriedMessages kind [] = Unit {0}
+CarriedMessages kind (m ∷ ms) = CarriedMessage kind m × CarriedMessages kind ms
+
+-- ---- bulks, as many as a count of four bytes tells
+
+pub record CarriedBulk (bulk : Bulk) : Type 0 where
+  pub header : CarriedHeader (bulk .header)
+  pub messages : CarriedMessages (kindOf (bulk .header)) (bulk .messages)
+  pub few : length (bulk .messages) < 2 ^ 32
+
+unfoldable pub CarriedEach : List Bulk → Type 0
+CarriedEach [] = Unit {0}
+CarriedEach (b ∷ bs) = CarriedBulk b × CarriedEach bs
+
+pub record Carried (bulks : List Bulk) : Type 0 where
+  pub each : CarriedEach bulks
+  pub some : 0 < length bulks
+  pub few : length bulks < 2 ^ 32

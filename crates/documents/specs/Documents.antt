@@ -1,0 +1,111 @@
+-- Bulks written as documents: each needed element once, in the order of the table, and nothing more. Assumes nothing.
+use Prim.Native.String.{String}
+use Prim.Native.Nat.{ℕ, _/_, _%_}
+use mathlib.Core.Bool.{Bool, cond}
+use mathlib.Core.List.{List, [], _∷_, _++_}
+use lib.Dec.{leb, eqb}
+use Rattle.wire.specs.Field.{text}
+use Rattle.sheet.specs.Sheet.{Bulk, paymentKind, kindOf, bulkIdentifierOf, senderOf, statedNumberOf, statedSumOf, valueDateOf, marksOf, identifierOf, receiverOf, amountOf, originalOf, reasonOf, nameOf}
+use Rattle.meanings.specs.Written.{decimalText, amountText, dateText}
+use Rattle.paths.specs.Roles as roles
+use Rattle.documents.specs.Spelling.{Spelling}
+use Rattle.documents.specs.Markup.{Markup, nothing, field, group, writtenTo}
+
+-- ---- the header
+
+-- the three marks: method CLRG, system EKS, a bulk recipient
+abbrev pub clears : ℕ → Bool
+clears marks = eqb (marks % 2) 1
+
+abbrev pub ownSystem : ℕ → Bool
+ownSystem marks = eqb (marks / 2 % 2) 1
+
+abbrev pub received : ℕ → Bool
+received marks = leb 4 marks
+
+abbrev pub methodText : Bool → List ℕ
+methodText clearing = cond clearing (text "CLRG") (text "COVE")
+
+abbrev pub systemText : Bool → List ℕ
+systemText own = cond own (text "EKS") (text "OTHER")
+
+abbrev pub settled : Bool → Bool → Markup
+settled clearing own =
+    field roles.method (text "SttlmMtd") (methodText clearing)
+    (group roles.clearing (text "ClrSys") (field roles.system (text "Prtry") (systemText own) nothing)
+    nothing)
+
+-- an institution by its BIC
+abbrev pub institution : ℕ → ℕ → List ℕ → Markup
+institution group' field' bic = group group' (text "FinInstnId") (field field' (text "BICFI") bic nothing) nothing
+
+abbrev pub recipientIf : Bool → Markup
+recipientIf there = cond there (group roles.recipient (text "InstdAgt") nothing nothing) nothing
+
+-- with the name of the sum's element
+abbrev pub headerOf : String → List ℕ → Markup
+headerOf sum header =
+    field roles.bulkIdentifier (text "MsgId") (bulkIdentifierOf header)
+    (field roles.statedNumber (text "NbOfTxs") (decimalText (statedNumberOf header))
+    (field roles.statedSum (text sum) (amountText (statedSumOf header))
+    (field roles.valueDate (text "IntrBkSttlmDt") (dateText (valueDateOf header))
+    (group roles.settlement (text "SttlmInf") (settled (clears (marksOf header)) (ownSystem (marksOf header)))
+    (group roles.senderAgent (text "InstgAgt") (institution roles.senderInstitution roles.sender (senderOf header))
+    (recipientIf (received (marksOf header))))))))
+
+-- ---- the messages
+
+abbrev pub receiverOf' : List ℕ → Markup → Markup
+receiverOf' message rest = group roles.receiverAgent (text "CdtrAgt") (institution roles.receiverInstitution roles.receiver (receiverOf message)) rest
+
+abbrev pub paymentOf : List ℕ → Markup
+paymentOf message =
+    group roles.paymentIdentification (text "PmtId") (field roles.identifier (text "TxId") (identifierOf message) nothing)
+    (receiverOf' message
+    (field roles.amount (text "IntrBkSttlmAmt") (amountText (amountOf message))
+    nothing))
+
+abbrev pub returnOf : List ℕ → Markup
+returnOf message =
+    field roles.identifier (text "RtrId") (identifierOf message)
+    (group roles.originalReference (text "OrgnlTxRef") (receiverOf' message nothing)
+    (field roles.amount (text "RtrdIntrBkSttlmAmt") (amountText (amountOf message))
+    (field roles.originalAmount (text "OrgnlIntrBkSttlmAmt") (amountText (originalOf message))
+    (group roles.reasonInformation (text "RtrRsnInf") (group roles.reasonGroup (text "Rsn") (field roles.reason (text "Cd") (reasonOf message) nothing) nothing)
+    (group roles.originalGroup (text "OrgnlGrpInf") (field roles.originalName (text "OrgnlMsgNmId") (nameOf message) nothing)
+    nothing)))))
+
+-- each message an element of a role and a name
+unfoldable pub eachOf : ℕ → List ℕ → (List ℕ → Markup) → List (List ℕ) → Markup
+eachOf role name inner [] = nothing
+eachOf role name inner (m ∷ ms) = group role name (inner m) (eachOf role name inner ms)
+
+-- ---- the documents
+
+abbrev pub paymentsOf : Bulk → Markup
+paymentsOf bulk =
+    group roles.payments (text "FIToFICstmrCdtTrf")
+    (group roles.paymentsHeader (text "GrpHdr") (headerOf "TtlIntrBkSttlmAmt" (bulk .header))
+    (eachOf roles.onePayment (text "CdtTrfTxInf") paymentOf (bulk .messages)))
+    nothing
+
+abbrev pub returnsOf : Bulk → Markup
+returnsOf bulk =
+    group roles.returns (text "PmtRtr")
+    (group roles.returnsHeader (text "GrpHdr") (headerOf "TtlRtrdIntrBkSttlmAmt" (bulk .header))
+    (eachOf roles.oneReturn (text "TxInf") returnOf (bulk .messages)))
+    nothing
+
+abbrev pub contentOf : Bulk → Markup
+contentOf bulk = cond (eqb (kindOf (bulk .header)) paymentKind) (paymentsOf bulk) (returnsOf bulk)
+
+unfoldable pub documents : List Bulk → Markup
+documents [] = nothing
+documents (b ∷ bs) = group roles.document (text "Document") (contentOf b) (documents bs)
+
+-- with a declaration in front or none
+abbrev pub declaration : List ℕ
+declaration = text "<?xml version=\"1.0\" encoding=\"UTF-8\"?>"
+
+unfoldable pub documentsOf : Bool → Spelling → List Bulk → List ℕ
+documentsOf declared how bulks = cond declared declaration [] ++ writtenTo how (documents bulks) []

@@ -1,0 +1,5 @@
+pub mod Spelling
+pub mod Markup
+pub mod Carried
+pub mod Documents
+pub mod ReadsBack
