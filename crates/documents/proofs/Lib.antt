@@ -5,4 +5,11 @@ pub mod Texts
 pub mod Tags
 pub mod Elements
 pub mod Questions
+pub mod Fields
+pub mod Each
+pub mod Messages
+pub mod Headers
+pub mod Bulks
+pub mod Roots
+pub mod ReadBack
 pub mod Cases

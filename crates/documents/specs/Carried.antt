@@ -6,7 +6,7 @@ use mathlib.Core.List.{List, [], _∷_}
 use lib.Dec.{eqb}
 use lib.ListN.{length, drop, replicate}
 use Rattle.wire.specs.Field.{Bytes}
-use Rattle.sheet.specs.Sheet.{Bulk, headerWidth, fieldsWidth, reasonWidth, nameWidth, paymentKind, knownKind, kindOf, bulkIdentifierOf, senderOf, statedNumberOf, statedSumOf, valueDateOf, marksOf, identifierOf, receiverOf, amountOf, originalOf, reasonOf, nameOf}
+use Rattle.sheet.specs.Sheet.{Bulk, headerWidth, messageWidth, reasonWidth, nameWidth, paymentKind, knownKind, kindOf, bulkIdentifierOf, senderOf, statedNumberOf, statedSumOf, valueDateOf, marksOf, identifierOf, receiverOf, amountOf, originalOf, reasonOf, nameOf}
 use Rattle.letters.specs.Characters.{widthAt}
 
 -- ---- texts: characters of XML in UTF-8 and nothing else
@@ -42,7 +42,7 @@ pub record NoOriginal (message : List ℕ) : Type 0 where
   pub name : nameOf message ≡ replicate nameWidth 32
 
 pub record CarriedMessage (kind : ℕ) (message : List ℕ) : Type 0 where
-  pub width : length message ≡ fieldsWidth
+  pub width : length message ≡ messageWidth kind
   pub bytes : Bytes message
   pub identifier : characters (identifierOf message) ≡ true
   pub receiver : characters (receiverOf message) ≡ true

@@ -1,0 +1,151 @@
+-- One message: its elements fit, lack nothing, and come back as the message. Assumes nothing.
+use mathlib.Core.Path.{_≡_, refl, sym, ap, _∙_}
+use mathlib.Core.Bool.{Bool, true, false, cond}
+use mathlib.Core.List.{List, [], _∷_, _++_}
+use Prim.Native.Nat.{ℕ, zero, suc, _+_, _≤_, _<_}
+use native.Mathlib.Omega.{arith}
+use lib.ListN.{length, drop, take, replicate}
+use lib.Seq.{take-all}
+use Rattle.wire.specs.Field.{text, part, bytesOf, same, Bytes}
+use Rattle.sheet.specs.Sheet.{messageWidth, paymentKind, returnKind, identifierOf, receiverOf, amountOf, originalOf, reasonOf, nameOf}
+use Rattle.sheet.proofs.Fields.{identifier-long, receiver-long, reason-long, name-long}
+use Rattle.tags.specs.Names.{nameStart, nameByte}
+use Rattle.meanings.specs.Written.{amountText}
+use Rattle.paths.specs.Roles as roles
+use Rattle.paths.specs.Table.{among, childRole, allMet, lacks}
+use Rattle.fields.specs.Fields.{fieldBytes}
+use Rattle.documents.specs.Markup.{Markup, nothing, field, group}
+use Rattle.documents.specs.Carried.{CarriedMessage}
+use Rattle.documents.specs.Documents.{paymentOf, returnOf}
+use Rattle.documents.proofs.Here.{all}
+use Rattle.documents.proofs.Tags.{isName}
+use Rattle.documents.proofs.Elements.{FieldFits, GroupFits, Fitting}
+use Rattle.documents.proofs.Questions.{textIn, countIn, lackIn, messagesOf, bytesIn, messageIn}
+use Rattle.documents.proofs.Fields.{Carries, number-back, part-then, identifier-carries, receiver-carries, amount-carries, original-carries, reason-carries, name-carries, no-amount, no-reason, no-name}
+use Rattle.documents.proofs.Each.{one}
+
+-- a field that carries something fits
+pub fitting-field : (parent role : ℕ) (name said bytes : List ℕ) → Carries role said bytes → isName name ≡ true → childRole parent name ≡ role → roles.isField role ≡ true
+    → FieldFits parent role name said
+fitting-field parent role name said bytes c named plays kind = record { named = named; plays = plays; kind = kind; carried = c .carried; form = c .form }
+
+-- ---- the parts of a message
+
+module _ (m : List ℕ) (width : length m ≡ 81) where
+  message-parts : part m 0 35 ++ part m 35 11 ++ part m 46 8 ++ part m 54 8 ++ part m 62 4 ++ part m 66 15 ≡ m
+  message-parts =
+      rw (part-then m 0 35 11, part-then m 0 46 8, part-then m 0 54 8, part-then m 0 62 4, part-then m 0 66 15) (take-all 81 m (omega arith))
+
+module _ (kind : ℕ) (m : List ℕ) (c : CarriedMessage kind m) where
+  identifier : Carries roles.identifier (identifierOf m) (identifierOf m)
+  identifier = identifier-carries (identifierOf m) (c .identifier) (identifier-long kind m (c .width))
+
+  receiver : Carries roles.receiver (receiverOf m) (receiverOf m)
+  receiver = receiver-carries (receiverOf m) (c .receiver) (receiver-long kind m (c .width))
+
+  amount : Carries roles.amount (amountText (amountOf m)) (bytesOf 8 (amountOf m))
+  amount = amount-carries (amountOf m) (c .amount)
+
+  original : Carries roles.originalAmount (amountText (originalOf m)) (bytesOf 8 (originalOf m))
+  original = original-carries (originalOf m) (c .original)
+
+  reason : Carries roles.reason (reasonOf m) (reasonOf m)
+  reason = reason-carries (reasonOf m) (c .reason) (reason-long kind m (c .width))
+
+  name : Carries roles.originalName (nameOf m) (nameOf m)
+  name = name-carries (nameOf m) (c .name) (name-long kind m (c .width))
+
+  wide : length m ≡ 81
+  unfolding messageWidth
+  wide = c .width
+
+  amount-there : bytesOf 8 (amountOf m) ≡ part m 46 8
+  amount-there = number-back m 46 8 (c .bytes) (omega (arith, wide))
+
+  original-there : bytesOf 8 (originalOf m) ≡ part m 54 8
+  original-there = number-back m 54 8 (c .bytes) (omega (arith, wide))
+
+  -- the bytes of its fields, one after the other
+  together : (a b d e f g : List ℕ) → a ≡ identifierOf m → b ≡ receiverOf m → d ≡ part m 46 8 → e ≡ part m 54 8 → f ≡ reasonOf m → g ≡ nameOf m
+      → a ++ b ++ d ++ e ++ f ++ g ≡ m
+  together a b d e f g p q r t u v = rw (p, q, r, t, u, v) (message-parts m wide)
+
+-- ---- a payment
+
+module _ (m : List ℕ) where
+  pub payment-complete : lacks roles.onePayment (countIn (paymentOf m)) ≡ false
+  unfolding lacks allMet countIn
+  payment-complete = refl
+
+  pub payment-below : lackIn (paymentOf m) ≡ false
+  unfolding lackIn lacks allMet countIn
+  payment-below = refl
+
+  pub payment-lone : messagesOf (paymentOf m) ≡ []
+  unfolding messagesOf
+  payment-lone = refl
+
+  module _ (c : CarriedMessage paymentKind m) where
+    pub payment-fits : Fitting 29 roles.onePayment (paymentOf m)
+    unfolding Fitting nameStart nameByte all childRole among same
+    payment-fits = (
+      record { named = refl; plays = refl; kind = refl; known = refl },
+      (fitting-field roles.paymentIdentification roles.identifier (text "TxId") (identifierOf m) _ (identifier paymentKind m c) refl refl refl, tt),
+      (
+        record { named = refl; plays = refl; kind = refl; known = refl },
+        (record { named = refl; plays = refl; kind = refl; known = refl }, (fitting-field roles.receiverInstitution roles.receiver (text "BICFI") (receiverOf m) _ (receiver paymentKind m c) refl refl refl, tt), tt),
+        (fitting-field roles.onePayment roles.amount (text "IntrBkSttlmAmt") (amountText (amountOf m)) _ (amount paymentKind m c) refl refl refl, tt),
+      ),
+    )
+
+    pub payment-back : messageIn (one roles.onePayment (text "CdtTrfTxInf") paymentOf m) ≡ m
+    unfolding textIn
+    payment-back =
+        let none = c .payment refl in
+        together paymentKind m c _ _ _ _ _ _
+        (identifier paymentKind m c .back) (receiver paymentKind m c .back) (amount paymentKind m c .back ∙ amount-there paymentKind m c)
+        (no-amount ∙ ap (bytesOf 8) (sym (none .amount)) ∙ original-there paymentKind m c) (no-reason ∙ sym (none .reason)) (no-name ∙ sym (none .name))
+
+-- ---- a return
+
+module _ (m : List ℕ) where
+  pub return-complete : lacks roles.oneReturn (countIn (returnOf m)) ≡ false
+  unfolding lacks allMet countIn
+  return-complete = refl
+
+  pub return-below : lackIn (returnOf m) ≡ false
+  unfolding lackIn lacks allMet countIn
+  return-below = refl
+
+  pub return-lone : messagesOf (returnOf m) ≡ []
+  unfolding messagesOf
+  return-lone = refl
+
+  module _ (c : CarriedMessage returnKind m) where
+    pub return-fits : Fitting 29 roles.oneReturn (returnOf m)
+    unfolding Fitting nameStart nameByte all childRole among same
+    return-fits = (
+      fitting-field roles.oneReturn roles.identifier (text "RtrId") (identifierOf m) _ (identifier returnKind m c) refl refl refl,
+      (
+        record { named = refl; plays = refl; kind = refl; known = refl },
+        (record { named = refl; plays = refl; kind = refl; known = refl }, (record { named = refl; plays = refl; kind = refl; known = refl }, (fitting-field roles.receiverInstitution roles.receiver (text "BICFI") (receiverOf m) _ (receiver returnKind m c) refl refl refl, tt), tt), tt),
+        (
+          fitting-field roles.oneReturn roles.amount (text "RtrdIntrBkSttlmAmt") (amountText (amountOf m)) _ (amount returnKind m c) refl refl refl,
+          (
+            fitting-field roles.oneReturn roles.originalAmount (text "OrgnlIntrBkSttlmAmt") (amountText (originalOf m)) _ (original returnKind m c) refl refl refl,
+            (
+              record { named = refl; plays = refl; kind = refl; known = refl },
+              (record { named = refl; plays = refl; kind = refl; known = refl }, (fitting-field roles.reasonGroup roles.reason (text "Cd") (reasonOf m) _ (reason returnKind m c) refl refl refl, tt), tt),
+              (record { named = refl; plays = refl; kind = refl; known = refl }, (fitting-field roles.originalGroup roles.originalName (text "OrgnlMsgNmId") (nameOf m) _ (name returnKind m c) refl refl refl, tt), tt),
+            ),
+          ),
+        ),
+      ),
+    )
+
+    pub return-back : messageIn (one roles.oneReturn (text "TxInf") returnOf m) ≡ m
+    unfolding textIn
+    return-back =
+        together returnKind m c _ _ _ _ _ _
+        (identifier returnKind m c .back) (receiver returnKind m c .back) (amount returnKind m c .back ∙ amount-there returnKind m c)
+        (original returnKind m c .back ∙ original-there returnKind m c) (reason returnKind m c .back) (name returnKind m c .back)
