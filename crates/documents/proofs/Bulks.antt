@@ -9,10 +9,11 @@ use borrow.Author.Tests.{eqb-true}
 use Rattle.wire.specs.Field.{text, bit, same}
 use Rattle.sheet.specs.Sheet.{Bulk, paymentKind, returnKind, kindOf, bulkIdentifierOf, senderOf, statedNumberOf, statedSumOf, valueDateOf, marksOf}
 use Rattle.tags.specs.Names.{nameStart, nameByte}
-use Rattle.meanings.specs.Written.{decimalText, amountText, dateText}
+use Rattle.meanings.specs.Written.{decimalText, dateText}
 use Rattle.paths.specs.Roles as roles
 use Rattle.paths.specs.Table.{among, childRole, allMet, lacks}
 use Rattle.fields.specs.Fields.{fieldBytes, isClearing, isSystem}
+use Rattle.documents.specs.Amounts.{euroText}
 use Rattle.documents.specs.Markup.{Markup, nothing, field, group}
 use Rattle.documents.specs.Carried.{CarriedHeader, CarriedMessages, CarriedBulk}
 use Rattle.documents.specs.Documents.{clears, ownSystem, received, methodText, systemText, headerOf, paymentOf, returnOf, eachOf, paymentsOf, returnsOf, contentOf}
@@ -28,7 +29,7 @@ use Rattle.documents.proofs.Headers.{method-told, system-told, marks-ba
 pub record HeaderTexts (w : Markup) (h : List ℕ) : Type 0 where
   pub identifier-is : textIn roles.bulkIdentifier w [] ≡ bulkIdentifierOf h
   pub number-is : textIn roles.statedNumber w [] ≡ decimalText (statedNumberOf h)
-  pub sum-is : textIn roles.statedSum w [] ≡ amountText (statedSumOf h)
+  pub sum-is : textIn roles.statedSum w [] ≡ euroText (statedSumOf h)
   pub date-is : textIn roles.valueDate w [] ≡ dateText (valueDateOf h)
   pub method-is : textIn roles.method w [] ≡ methodText (clears (marksOf h))
   pub system-is : textIn roles.system w [] ≡ systemText (ownSystem (marksOf h))
@@ -78,7 +79,7 @@ module _ (b : Bulk) (c : CarriedBulk b) (kind : kindOf (b .header) ≡ paymentKi
       record {
         identifier-is = silent roles.bulkIdentifier (λ m t. refl) _ ∙ recipient-silent roles.bulkIdentifier r (bulkIdentifierOf h);
         number-is = silent roles.statedNumber (λ m t. refl) _ ∙ recipient-silent roles.statedNumber r (decimalText (statedNumberOf h));
-        sum-is = silent roles.statedSum (λ m t. refl) _ ∙ recipient-silent roles.statedSum r (amountText (statedSumOf h));
+        sum-is = silent roles.statedSum (λ m t. refl) _ ∙ recipient-silent roles.statedSum r (euroText (statedSumOf h));
         date-is = silent roles.valueDate (λ m t. refl) _ ∙ recipient-silent roles.valueDate r (dateText (valueDateOf h));
         method-is = silent roles.method (λ m t. refl) _ ∙ recipient-silent roles.method r (methodText (clears (marksOf h)));
         system-is = silent roles.system (λ m t. refl) _ ∙ recipient-silent roles.system r (systemText (ownSystem (marksOf h)));
@@ -152,7 +153,7 @@ module _ (b : Bulk) (c : CarriedBulk b) (kind : kindOf (b .header) ≡ returnKin
       record {
         identifier-is = hushed roles.bulkIdentifier (λ m t. refl) _ ∙ recipient-silent roles.bulkIdentifier r (bulkIdentifierOf head);
         number-is = hushed roles.statedNumber (λ m t. refl) _ ∙ recipient-silent roles.statedNumber r (decimalText (statedNumberOf head));
-        sum-is = hushed roles.statedSum (λ m t. refl) _ ∙ recipient-silent roles.statedSum r (amountText (statedSumOf head));
+        sum-is = hushed roles.statedSum (λ m t. refl) _ ∙ recipient-silent roles.statedSum r (euroText (statedSumOf head));
         date-is = hushed roles.valueDate (λ m t. refl) _ ∙ recipient-silent roles.valueDate r (dateText (valueDateOf head));
         method-is = hushed roles.method (λ m t. refl) _ ∙ recipient-silent roles.method r (methodText (clears (marksOf head)));
         system-is = hushed roles.system (λ m t. refl) _ ∙ recipient-silent roles.system r (systemText (ownSystem (marksOf head)));

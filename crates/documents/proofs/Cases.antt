@@ -1,9 +1,104 @@
--- The definitions tried on small texts. Assumes nothing.
+-- The definitions tried on small texts, one payment and one return. Assumes nothing.
 use mathlib.Core.Path.{_≡_, refl}
+use mathlib.Core.Bool.{true, false}
+use mathlib.Core.List.{List, [], _∷_, _++_}
+use lib.ListN.{replicate}
+use Prim.Native.Nat.{ℕ}
 use Rattle.wire.specs.Field.{text}
-use Rattle.decimals.specs.Decimal.{digitsOf, decimalIn, decimal}
-use Rattle.documents.specs.Spelling.{spelledBy, spelled, asItStands, byNumbers, byNames}
+use Rattle.letters.specs.Characters.{widthOf, widthAt}
+use Rattle.fields.proofs.Computing.{fieldsCompute}
+use Rattle.documents.specs.Spelling.{hexadecimally, spelledBy, spelled, asItStands, byNumbers, byNames}
+use Rattle.documents.specs.Markup.{writtenTo}
+use Rattle.documents.specs.Amounts.{carriedAmount, tenthsText, euroText}
+use Rattle.documents.specs.Carried.{charactersBy, characters}
+use Rattle.documents.specs.Documents.{eachOf, documents, documentsOf}
+use Rattle.documents.proofs.Instances.{payments, returns}
 
-stands : spelled asItStands (text "a<b]>") ≡ text "a&#60;b]&#62;"
-unfolding spelled spelledBy decimal decimalIn digitsOf
+unfoldable computes : Unit {0}
+unfolding fieldsCompute widthOf widthAt spelledBy spelled writtenTo tenthsText euroText charactersBy eachOf documents documentsOf
+computes = tt
+
+-- ---- spellings
+
+stands : spelled asItStands (text "a<b]]>'") ≡ text "a&#60;b]]&#62;'"
+unfolding computes
 stands = refl
+
+numbered : spelled byNumbers (text "A&") ≡ text "&#65;&#38;"
+unfolding computes
+numbered = refl
+
+sixteenths : spelled (λ left. hexadecimally) (text "J>") ≡ text "&#x4A;&#x3E;"
+unfolding computes
+sixteenths = refl
+
+named : spelled byNames (text "<>&'\"x") ≡ text "&lt;&gt;&amp;&apos;&quot;x"
+unfolding computes
+named = refl
+
+-- a letter of two bytes stands as it is, in every spelling
+longer : spelled byNumbers (65 ∷ 195 ∷ 164 ∷ []) ≡ text "&#65;" ++ (195 ∷ 164 ∷ [])
+unfolding computes
+longer = refl
+
+-- ---- what can be carried
+
+carried : characters (9 ∷ 65 ∷ 195 ∷ 164 ∷ 32 ∷ []) ≡ true
+unfolding computes
+carried = refl
+
+broken-off : characters (65 ∷ 195 ∷ []) ≡ false
+unfolding computes
+broken-off = refl
+
+no-character : characters (65 ∷ 0 ∷ []) ≡ false
+unfolding computes
+no-character = refl
+
+two-digits : euroText 999999999999999999 ≡ text "9999999999999999.99"
+unfolding computes
+two-digits = refl
+
+one-digit : euroText 1000000000000000010 ≡ text "10000000000000000.1"
+unfolding computes
+one-digit = refl
+
+no-digit : euroText 18446744073709551600 ≡ text "184467440737095516"
+unfolding computes
+no-digit = refl
+
+too-fine : carriedAmount 1000000000000000001 ≡ false
+too-fine = refl
+
+too-fine-too : carriedAmount 18446744073709551610 ≡ false
+too-fine-too = refl
+
+-- ---- documents
+
+blanks : ℕ → List ℕ
+blanks n = replicate n 32
+
+paid : documentsOf true byNames (payments ∷ [])
+    ≡ text "<?xml version=\"1.0\" encoding=\"UTF-8\"?><Document><FIToFICstmrCdtTrf><GrpHdr>"
+    ++ text "<MsgId>B&amp;1" ++ blanks 32 ++ text "</MsgId><NbOfTxs>1</NbOfTxs>"
+    ++ text "<TtlIntrBkSttlmAmt Ccy=\"EUR\">2.50</TtlIntrBkSttlmAmt><IntrBkSttlmDt>2024-02-29</IntrBkSttlmDt>"
+    ++ text "<SttlmInf><SttlmMtd>CLRG</SttlmMtd><ClrSys><Prtry>EKS</Prtry></ClrSys></SttlmInf>"
+    ++ text "<InstgAgt><FinInstnId><BICFI>AAAALV22</BICFI></FinInstnId></InstgAgt></GrpHdr>"
+    ++ text "<CdtTrfTxInf><PmtId><TxId>P1" ++ blanks 33 ++ text "</TxId></PmtId>"
+    ++ text "<CdtrAgt><FinInstnId><BICFI>BBBBLV22   </BICFI></FinInstnId></CdtrAgt>"
+    ++ text "<IntrBkSttlmAmt Ccy=\"EUR\">2.50</IntrBkSttlmAmt></CdtTrfTxInf></FIToFICstmrCdtTrf></Document>"
+unfolding computes payments blanks
+paid = refl
+
+returned : documentsOf false asItStands (returns ∷ [])
+    ≡ text "<Document><PmtRtr><GrpHdr><MsgId>B2" ++ blanks 33 ++ text "</MsgId><NbOfTxs>1</NbOfTxs>"
+    ++ text "<TtlRtrdIntrBkSttlmAmt Ccy=\"EUR\">1.99</TtlRtrdIntrBkSttlmAmt><IntrBkSttlmDt>2024-03-01</IntrBkSttlmDt>"
+    ++ text "<SttlmInf><SttlmMtd>COVE</SttlmMtd><ClrSys><Prtry>OTHER</Prtry></ClrSys></SttlmInf>"
+    ++ text "<InstgAgt><FinInstnId><BICFI>AAAALV22</BICFI></FinInstnId></InstgAgt><InstdAgt></InstdAgt></GrpHdr>"
+    ++ text "<TxInf><RtrId>R1" ++ blanks 33 ++ text "</RtrId>"
+    ++ text "<OrgnlTxRef><CdtrAgt><FinInstnId><BICFI>BBBBLV22XXX</BICFI></FinInstnId></CdtrAgt></OrgnlTxRef>"
+    ++ text "<RtrdIntrBkSttlmAmt Ccy=\"EUR\">1.99</RtrdIntrBkSttlmAmt><OrgnlIntrBkSttlmAmt Ccy=\"EUR\">2.50</OrgnlIntrBkSttlmAmt>"
+    ++ text "<RtrRsnInf><Rsn><Cd>AC01</Cd></Rsn></RtrRsnInf><OrgnlGrpInf><OrgnlMsgNmId>pacs.008.001.08</OrgnlMsgNmId></OrgnlGrpInf>"
+    ++ text "</TxInf></PmtRtr></Document>"
+unfolding computes returns blanks
+returned = refl

@@ -4,7 +4,7 @@ use mathlib.Core.Bool.{Bool, true, false, cond, not, _&&_, _||_, or-true, and-eq
 use mathlib.Core.List.{List, [], _∷_, _++_, append-nil}
 use Prim.Native.Nat.{ℕ, zero, suc, _+_, _-_, _/_, _%_, _^_, _≤_, _<_}
 use native.Mathlib.Omega.{arith}
-use lib.Dec.{eqb, leb}
+use lib.Dec.{eqb, leb, ltb}
 use lib.ListN.{length, take, drop, replicate}
 use lib.Seq.{take-at, take-add, drop-drop}
 use borrow.Author.Tests.{le-leb, ne-eqb}
@@ -20,12 +20,14 @@ use Rattle.meanings.specs.Written.{decimalText, amountText, dateText}
 use Rattle.meanings.specs.declared.Meant.{Meant}
 use Rattle.meanings.specs.declared.Meant.the-variants.{Is, Nothing}
 use Rattle.meanings.proofs.Decimals.{digits-both, digit-bounds}
-use Rattle.meanings.proofs.Written.{number-written, amount-written, date-written, shown-digits, printed-digits}
+use Rattle.meanings.proofs.Written.{number-written, date-written, shown-digits, printed-digits}
 use Rattle.paths.specs.Roles as roles
 use Rattle.fields.specs.Fields.{widthOf, isMark, fits, fieldBytes, meantBytes}
 use Rattle.fields.proofs.Computing.{fieldsCompute}
+use Rattle.documents.specs.Amounts.{carriedAmount, tenthsText, euroText}
 use Rattle.documents.specs.Carried.{charactersBy, characters}
 use Rattle.documents.proofs.Here.{all}
+use Rattle.documents.proofs.Amounts.{euro-written}
 
 -- ---- texts of characters of one byte
 
@@ -51,13 +53,25 @@ digits-alone : (t : List ℕ) → digits t ≡ true → all single t ≡ true
 unfolding all
 digits-alone t e = ap (all single) (sym (append-nil t)) ∙ digits-single t [] e refl
 
-module _ (n : ℕ) where
-  number-characters : characters (decimalText n) ≡ true
-  number-characters = singles (decimalText n) (digits-alone (decimalText n) (printed-digits n))
+number-characters : (n : ℕ) → characters (decimalText n) ≡ true
+number-characters n = singles (decimalText n) (digits-alone (decimalText n) (printed-digits n))
 
-  amount-characters : characters (amountText n) ≡ true
-  unfolding amountText all
-  amount-characters = singles (amountText n) (digits-single (decimalText (n / 100)) (46 ∷ digitsOf 2 n) (printed-digits (n / 100)) (digits-alone (digitsOf 2 n) (shown-digits 2 n)))
+module _ (n : ℕ) where
+  -- with a point and some digits behind it
+  pointed : (k m : ℕ) → characters (decimalText (n / 100) ++ (46 ∷ digitsOf k m)) ≡ true
+  unfolding all
+  pointed k m =
+      singles (decimalText (n / 100) ++ (46 ∷ digitsOf k m))
+      (digits-single (decimalText (n / 100)) (46 ∷ digitsOf k m) (printed-digits (n / 100)) (digits-alone (digitsOf k m) (shown-digits k m)))
+
+  amount-characters : characters (euroText n) ≡ true
+  unfolding euroText amountText tenthsText
+  amount-characters = by-form (ltb n (10 ^ 18)) (eqb (n % 100) 0)
+    where
+      by-form : (a c : Bool) → characters (cond a (amountText n) (cond c (decimalText (n / 100)) (tenthsText n))) ≡ true
+      by-form true c = pointed 2 n
+      by-form false true = number-characters (n / 100)
+      by-form false false = pointed 1 (n / 10)
 
   date-characters : characters (dateText n) ≡ true
   unfolding dateText all
@@ -94,22 +108,22 @@ date-carries n h =
     record { carried = date-characters n; form = meant-held (isDate (dateText n)) _ n (date-written n h); back = rw (date-written n h) }
 
 -- the roles of amounts
-module _ (n : ℕ) (h : n < 10 ^ 18) where
-  amount-form : isAmount (amountText n) ≡ true
-  amount-form = meant-held (isAmount (amountText n)) _ n (amount-written n h)
+module _ (n : ℕ) (h : carriedAmount n ≡ true) (small : n < 2 ^ 64) where
+  amount-form : isAmount (euroText n) ≡ true
+  amount-form = meant-held (isAmount (euroText n)) _ n (euro-written n h small)
 
-  amount-back : meantBytes 8 (amountMeant (amountText n)) ≡ bytesOf 8 n
-  amount-back = ap (meantBytes 8) (amount-written n h)
+  amount-back : meantBytes 8 (amountMeant (euroText n)) ≡ bytesOf 8 n
+  amount-back = ap (meantBytes 8) (euro-written n h small)
 
-  pub sum-carries : Carries roles.statedSum (amountText n) (bytesOf 8 n)
+  pub sum-carries : Carries roles.statedSum (euroText n) (bytesOf 8 n)
   unfolding fits fieldBytes
   sum-carries = record { carried = amount-characters n; form = amount-form; back = amount-back }
 
-  pub amount-carries : Carries roles.amount (amountText n) (bytesOf 8 n)
+  pub amount-carries : Carries roles.amount (euroText n) (bytesOf 8 n)
   unfolding fits fieldBytes
   amount-carries = record { carried = amount-characters n; form = amount-form; back = amount-back }
 
-  pub original-carries : Carries roles.originalAmount (amountText n) (bytesOf 8 n)
+  pub original-carries : Carries roles.originalAmount (euroText n) (bytesOf 8 n)
   unfolding fits fieldBytes
   original-carries = record { carried = amount-characters n; form = amount-form; back = amount-back }
 

@@ -11,15 +11,17 @@ use lib.Seq.{take-all}
 use Rattle.wire.specs.Field.{text, part, numberOf, bytesOf, bit, same}
 use Rattle.wire.specs.Places.{everyFrom}
 use Rattle.wire.proofs.Scans.{every-holds}
+use Rattle.wire.proofs.Numbers.{number-small}
 use Rattle.sheet.specs.Sheet.{kindOf, bulkIdentifierOf, senderOf, statedNumberOf, statedSumOf, valueDateOf, marksOf}
 use Rattle.sheet.proofs.Fields.{bulk-identifier-long, sender-long}
 use Rattle.letters.specs.Characters.{widthOf, widthAt}
 use Rattle.tags.specs.Names.{nameStart, nameByte}
-use Rattle.meanings.specs.Written.{decimalText, amountText, dateText}
+use Rattle.meanings.specs.Written.{decimalText, dateText}
 use Rattle.paths.specs.Roles as roles
 use Rattle.paths.specs.Table.{among, childRole, allMet, lacks}
 use Rattle.fields.specs.Fields.{fits, isClearing, isSystem}
 use borrow.Author.Tests.{eqb-true}
+use Rattle.documents.specs.Amounts.{euroText}
 use Rattle.documents.specs.Markup.{Markup, nothing, field, group}
 use Rattle.documents.specs.Carried.{charactersBy, characters, CarriedHeader}
 use Rattle.documents.specs.Documents.{clears, ownSystem, received, methodText, systemText, recipientIf, headerOf}
@@ -80,7 +82,7 @@ abbrev headed : String → List ℕ → Markup → Markup
 headed sum h rest =
     field roles.bulkIdentifier (text "MsgId") (bulkIdentifierOf h)
     (field roles.statedNumber (text "NbOfTxs") (decimalText (statedNumberOf h))
-    (field roles.statedSum (text sum) (amountText (statedSumOf h))
+    (field roles.statedSum (text sum) (euroText (statedSumOf h))
     (field roles.valueDate (text "IntrBkSttlmDt") (dateText (valueDateOf h))
     (group roles.settlement (text "SttlmInf")
     (field roles.method (text "SttlmMtd") (methodText (clears (marksOf h)))
@@ -153,8 +155,8 @@ module _ (h : List ℕ) (c : CarriedHeader h) where
   pub number : Carries roles.statedNumber (decimalText (statedNumberOf h)) (bytesOf 8 (statedNumberOf h))
   number = number-carries (statedNumberOf h) (c .number)
 
-  pub total : Carries roles.statedSum (amountText (statedSumOf h)) (bytesOf 8 (statedSumOf h))
-  total = sum-carries (statedSumOf h) (c .sum)
+  pub total : Carries roles.statedSum (euroText (statedSumOf h)) (bytesOf 8 (statedSumOf h))
+  total = sum-carries (statedSumOf h) (c .sum) (number-small h 52 8 (c .bytes))
 
   pub date : Carries roles.valueDate (dateText (valueDateOf h)) (bytesOf 4 (valueDateOf h))
   date = date-carries (valueDateOf h) (c .date)
@@ -191,7 +193,7 @@ module _ (h : List ℕ) (c : CarriedHeader h) where
     (
       fitting-field parent roles.statedNumber (text "NbOfTxs") (decimalText (statedNumberOf h)) _ number refl b refl,
       (
-        fitting-field parent roles.statedSum (text sum) (amountText (statedSumOf h)) _ total named d refl,
+        fitting-field parent roles.statedSum (text sum) (euroText (statedSumOf h)) _ total named d refl,
         (
           fitting-field parent roles.valueDate (text "IntrBkSttlmDt") (dateText (valueDateOf h)) _ date refl e refl,
           (

@@ -5,6 +5,7 @@ pub mod Texts
 pub mod Tags
 pub mod Elements
 pub mod Questions
+pub mod Amounts
 pub mod Fields
 pub mod Each
 pub mod Messages
@@ -12,4 +13,5 @@ pub mod Headers
 pub mod Bulks
 pub mod Roots
 pub mod ReadBack
+pub mod Instances
 pub mod Cases

@@ -7,13 +7,14 @@ use native.Mathlib.Omega.{arith}
 use lib.ListN.{length, drop, take, replicate}
 use lib.Seq.{take-all}
 use Rattle.wire.specs.Field.{text, part, bytesOf, same, Bytes}
+use Rattle.wire.proofs.Numbers.{number-small}
 use Rattle.sheet.specs.Sheet.{messageWidth, paymentKind, returnKind, identifierOf, receiverOf, amountOf, originalOf, reasonOf, nameOf}
 use Rattle.sheet.proofs.Fields.{identifier-long, receiver-long, reason-long, name-long}
 use Rattle.tags.specs.Names.{nameStart, nameByte}
-use Rattle.meanings.specs.Written.{amountText}
 use Rattle.paths.specs.Roles as roles
 use Rattle.paths.specs.Table.{among, childRole, allMet, lacks}
 use Rattle.fields.specs.Fields.{fieldBytes}
+use Rattle.documents.specs.Amounts.{euroText}
 use Rattle.documents.specs.Markup.{Markup, nothing, field, group}
 use Rattle.documents.specs.Carried.{CarriedMessage}
 use Rattle.documents.specs.Documents.{paymentOf, returnOf}
@@ -43,11 +44,11 @@ module _ (kind : ℕ) (m : List ℕ) (c : CarriedMessage kind m) where
   receiver : Carries roles.receiver (receiverOf m) (receiverOf m)
   receiver = receiver-carries (receiverOf m) (c .receiver) (receiver-long kind m (c .width))
 
-  amount : Carries roles.amount (amountText (amountOf m)) (bytesOf 8 (amountOf m))
-  amount = amount-carries (amountOf m) (c .amount)
+  amount : Carries roles.amount (euroText (amountOf m)) (bytesOf 8 (amountOf m))
+  amount = amount-carries (amountOf m) (c .amount) (number-small m 46 8 (c .bytes))
 
-  original : Carries roles.originalAmount (amountText (originalOf m)) (bytesOf 8 (originalOf m))
-  original = original-carries (originalOf m) (c .original)
+  original : Carries roles.originalAmount (euroText (originalOf m)) (bytesOf 8 (originalOf m))
+  original = original-carries (originalOf m) (c .original) (number-small m 54 8 (c .bytes))
 
   reason : Carries roles.reason (reasonOf m) (reasonOf m)
   reason = reason-carries (reasonOf m) (c .reason) (reason-long kind m (c .width))
@@ -94,7 +95,7 @@ module _ (m : List ℕ) where
       (
         record { named = refl; plays = refl; kind = refl; known = refl },
         (record { named = refl; plays = refl; kind = refl; known = refl }, (fitting-field roles.receiverInstitution roles.receiver (text "BICFI") (receiverOf m) _ (receiver paymentKind m c) refl refl refl, tt), tt),
-        (fitting-field roles.onePayment roles.amount (text "IntrBkSttlmAmt") (amountText (amountOf m)) _ (amount paymentKind m c) refl refl refl, tt),
+        (fitting-field roles.onePayment roles.amount (text "IntrBkSttlmAmt") (euroText (amountOf m)) _ (amount paymentKind m c) refl refl refl, tt),
       ),
     )
 
@@ -130,9 +131,9 @@ module _ (m : List ℕ) where
         record { named = refl; plays = refl; kind = refl; known = refl },
         (record { named = refl; plays = refl; kind = refl; known = refl }, (record { named = refl; plays = refl; kind = refl; known = refl }, (fitting-field roles.receiverInstitution roles.receiver (text "BICFI") (receiverOf m) _ (receiver returnKind m c) refl refl refl, tt), tt), tt),
         (
-          fitting-field roles.oneReturn roles.amount (text "RtrdIntrBkSttlmAmt") (amountText (amountOf m)) _ (amount returnKind m c) refl refl refl,
+          fitting-field roles.oneReturn roles.amount (text "RtrdIntrBkSttlmAmt") (euroText (amountOf m)) _ (amount returnKind m c) refl refl refl,
           (
-            fitting-field roles.oneReturn roles.originalAmount (text "OrgnlIntrBkSttlmAmt") (amountText (originalOf m)) _ (original returnKind m c) refl refl refl,
+            fitting-field roles.oneReturn roles.originalAmount (text "OrgnlIntrBkSttlmAmt") (euroText (originalOf m)) _ (original returnKind m c) refl refl refl,
             (
               record { named = refl; plays = refl; kind = refl; known = refl },
               (record { named = refl; plays = refl; kind = refl; known = refl }, (fitting-field roles.reasonGroup roles.reason (text "Cd") (reasonOf m) _ (reason returnKind m c) refl refl refl, tt), tt),

@@ -14,13 +14,14 @@ use Rattle.wire.specs.Field.{text, part, same}
 use Rattle.wire.specs.Places.{everyFrom}
 use Rattle.wire.proofs.Scans.{every-holds}
 use Rattle.wire.proofs.Sides.{le-or-lt}
+use Rattle.wire.proofs.Texts.{same-equal}
 use Rattle.letters.specs.Places.{byteAt, run, runEnd, between}
 use Rattle.letters.specs.Characters.{isCharacter, single}
 use Rattle.letters.specs.References.{digitOf, digitIn, numeralFrom, numeral, numbered, numberedAt, stands, referenceAt}
 use Rattle.letters.specs.declared.Reference.{Reference}
 use Rattle.letters.specs.declared.Reference.the-variants.{Stands, Nothing}
 use Rattle.decimals.specs.Decimal.{digitsOf, decimalIn, decimal}
-use Rattle.documents.specs.Spelling.{Way, itself, decimally, hexadecimally, byName, referred, decimalReference, hexadecimalReference, namedReference, spelledBy, Spelling, spelled}
+use Rattle.documents.specs.Spelling.{Way, itself, decimally, hexadecimally, byName, referred, spelledBy, Spelling, spelled}
 use Rattle.documents.proofs.Here.{all}
 
 -- ---- a reference by what is left of the text
@@ -84,29 +85,26 @@ module _ (s : List ℕ) (at : ℕ) where
       by-tests false false false false false false true x y x' y' p q = q
       by-tests false false false false false false false x y x' y' p q = refl
 
--- ---- the references of all characters of one byte, by computing
+-- ---- a spelled character is one that may stand as it is, or a reference to it
+
+pub data Spelt (s : List ℕ) (at c : ℕ) (word : List ℕ) : Type 0 where
+  plain : word ≡ c ∷ [] → referred c ≡ false → Spelt s at c word
+  refers-to : referenceAt s at ≡ Stands c (at + length word) → Spelt s at c word
 
 abbrev standsFor : ℕ → ℕ → Reference → Bool
 standsFor c n (Stands d m) = eqb d c && eqb m n
 standsFor c n Nothing = false
 
-abbrev refers : (ℕ → List ℕ) → List ℕ → ℕ → Bool
-refers spell ys c = not (single c) || standsFor c (length (spell c)) (referenceAt (spell c ++ ys) 0)
+abbrev right : List ℕ → List ℕ → ℕ → Bool
+right word ys c = not (single c) || (same word (c ∷ []) && not (referred c)) || standsFor c (length word) (referenceAt (word ++ ys) 0)
 
-module _ (ys : List ℕ) where
-  all-decimal : everyFrom (refers decimalReference ys) 128 0 ≡ true
-  unfolding everyFrom same isCharacter run digitOf numeralFrom numberedAt referenceAt decimal decimalIn digitsOf
-  all-decimal = refl
-
-  all-hexadecimal : everyFrom (refers hexadecimalReference ys) 128 0 ≡ true
-  unfolding everyFrom same isCharacter run digitOf numeralFrom numberedAt referenceAt decimal decimalIn digitsOf
-  all-hexadecimal = refl
-
-  all-named : everyFrom (refers namedReference ys) 128 0 ≡ true
-  unfolding everyFrom same isCharacter run digitOf numeralFrom numberedAt referenceAt decimal decimalIn digitsOf
-  all-named = refl
-
--- ---- one of them, at any place
+-- of all characters of one byte, by computing
+every-right : (w : Way) (ys : List ℕ) → everyFrom (λ c. right (spelledBy w c) ys c) 128 0 ≡ true
+unfolding everyFrom same isCharacter run digitOf numeralFrom numberedAt referenceAt decimal decimalIn digitsOf spelledBy
+every-right itself ys = refl
+every-right decimally ys = refl
+every-right hexadecimally ys = refl
+every-right byName ys = refl
 
 told-stands : (c n : ℕ) (r : Reference) → standsFor c n r ≡ true → r ≡ Stands c n
 told-stands c n (Stands d m) e =
@@ -114,29 +112,20 @@ told-stands c n (Stands d m) e =
     rw (eqb-true d c (both .0), eqb-true m n (both .1))
 told-stands c n Nothing e = absurd (false≢true e)
 
--- of a character the reference is one, and has no '>'
-module _ (spell : ℕ → List ℕ) (every : (ys : List ℕ) → everyFrom (refers spell ys) 128 0 ≡ true) (s : List ℕ) (at c : ℕ) (small : c < 128) (one : single c ≡ true) where
-  reference-here : (ys : List ℕ) → drop at s ≡ spell c ++ ys → referenceAt s at ≡ Stands c (at + length (spell c))
-  reference-here ys e =
-      let held : refers spell ys c ≡ true = every-holds (refers spell ys) 128 0 c (every ys) (omega arith) (omega arith) in
-      let here : standsFor c (length (spell c)) (referenceAt (spell c ++ ys) 0) ≡ true = rw one at held in
-      reference-moved s at ∙ (rw (e, told-stands c (length (spell c)) (referenceAt (spell c ++ ys) 0) here))
-
--- a spelled character is one that may stand as it is, or a reference to it
-pub data Spelt (s : List ℕ) (at c : ℕ) (word : List ℕ) : Type 0 where
-  plain : word ≡ c ∷ [] → referred c ≡ false → Spelt s at c word
-  refers-to : referenceAt s at ≡ Stands c (at + length word) → Spelt s at c word
+-- at any place
+module _ (s : List ℕ) (at c : ℕ) (word ys : List ℕ) (one : single c ≡ true) (e : drop at s ≡ word ++ ys) where
+  spelt-right : right word ys c ≡ true → Spelt s at c word
+  spelt-right held = by-test (same word (c ∷ []) && not (referred c)) refl (rw one at held)
+    where
+      by-test : (t : Bool) → (same word (c ∷ []) && not (referred c)) ≡ t → (t || standsFor c (length word) (referenceAt (word ++ ys) 0)) ≡ true → Spelt s at c word
+      by-test true is h =
+          let both = and-eq-true-iff (same word (c ∷ [])) (not (referred c)) .0 is in
+          plain (same-equal word (c ∷ []) (both .0)) (not-true (referred c) (both .1))
+      by-test false is h = refers-to (reference-moved s at ∙ (rw (e, told-stands c (length word) (referenceAt (word ++ ys) 0) h)))
 
 pub spelt-here : (w : Way) (s : List ℕ) (at c : ℕ) (ys : List ℕ) → c < 128 → single c ≡ true → drop at s ≡ spelledBy w c ++ ys → Spelt s at c (spelledBy w c)
-unfolding spelledBy
-spelt-here itself s at c ys small one e = by-test (referred c) refl e
-  where
-    by-test : (t : Bool) → referred c ≡ t → drop at s ≡ cond t (decimalReference c) (c ∷ []) ++ ys → Spelt s at c (cond t (decimalReference c) (c ∷ []))
-    by-test true r e = refers-to (reference-here decimalReference all-decimal s at c small one ys e)
-    by-test false r e = plain refl r
-spelt-here decimally s at c ys small one e = refers-to (reference-here decimalReference all-decimal s at c small one ys e)
-spelt-here hexadecimally s at c ys small one e = refers-to (reference-here hexadecimalReference all-hexadecimal s at c small one ys e)
-spelt-here byName s at c ys small one e = refers-to (reference-here namedReference all-named s at c small one ys e)
+spelt-here w s at c ys small one e =
+    spelt-right s at c (spelledBy w c) ys one e (every-holds (λ k. right (spelledBy w k) ys k) 128 0 c (every-right w ys) (omega arith) (omega arith))
 
 -- ---- no spelling has a '>', so that nothing spelled holds the end of a section
 

@@ -8,6 +8,7 @@ use lib.ListN.{length, drop, replicate}
 use Rattle.wire.specs.Field.{Bytes}
 use Rattle.sheet.specs.Sheet.{Bulk, headerWidth, messageWidth, reasonWidth, nameWidth, paymentKind, knownKind, kindOf, bulkIdentifierOf, senderOf, statedNumberOf, statedSumOf, valueDateOf, marksOf, identifierOf, receiverOf, amountOf, originalOf, reasonOf, nameOf}
 use Rattle.letters.specs.Characters.{widthAt}
+use Rattle.documents.specs.Amounts.{carriedAmount}
 
 -- ---- texts: characters of XML in UTF-8 and nothing else
 
@@ -20,7 +21,7 @@ charactersBy (suc n) t = eqb (length t) 0 || (not (eqb (widthAt t 0) 0) && chara
 abbrev pub characters : List ℕ → Bool
 characters t = charactersBy (length t) t
 
--- ---- a header: 15 digits write the stated number, 18 the sum in cents, 8 the date; there are three marks
+-- ---- a header: the stated number has at most 15 digits, the date at most 8, and there are three marks
 
 pub record CarriedHeader (header : List ℕ) : Type 0 where
   pub width : length header ≡ headerWidth
@@ -29,7 +30,7 @@ pub record CarriedHeader (header : List ℕ) : Type 0 where
   pub identifier : characters (bulkIdentifierOf header) ≡ true
   pub sender : characters (senderOf header) ≡ true
   pub number : statedNumberOf header < 10 ^ 15
-  pub sum : statedSumOf header < 10 ^ 18
+  pub sum : carriedAmount (statedSumOf header) ≡ true
   pub date : valueDateOf header < 10 ^ 8
   pub marks : marksOf header < 8
 
@@ -46,8 +47,8 @@ pub record CarriedMessage (kind : ℕ) (message : List ℕ) : Type 0 where
   pub bytes : Bytes message
   pub identifier : characters (identifierOf message) ≡ true
   pub receiver : characters (receiverOf message) ≡ true
-  pub amount : amountOf message < 10 ^ 18
-  pub original : originalOf message < 10 ^ 18
+  pub amount : carriedAmount (amountOf message) ≡ true
+  pub original : carriedAmount (originalOf message) ≡ true
   pub reason : characters (reasonOf message) ≡ true
   pub name : characters (nameOf message) ≡ true
   pub payment : kind ≡ paymentKind → NoOriginal message

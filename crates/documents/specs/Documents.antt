@@ -6,9 +6,10 @@ use mathlib.Core.List.{List, [], _∷_, _++_}
 use lib.Dec.{leb, eqb}
 use Rattle.wire.specs.Field.{text}
 use Rattle.sheet.specs.Sheet.{Bulk, paymentKind, kindOf, bulkIdentifierOf, senderOf, statedNumberOf, statedSumOf, valueDateOf, marksOf, identifierOf, receiverOf, amountOf, originalOf, reasonOf, nameOf}
-use Rattle.meanings.specs.Written.{decimalText, amountText, dateText}
+use Rattle.meanings.specs.Written.{decimalText, dateText}
 use Rattle.paths.specs.Roles as roles
 use Rattle.documents.specs.Spelling.{Spelling}
+use Rattle.documents.specs.Amounts.{euroText}
 use Rattle.documents.specs.Markup.{Markup, nothing, field, group, writtenTo}
 
 -- ---- the header
@@ -47,7 +48,7 @@ abbrev pub headerOf : String → List ℕ → Markup
 headerOf sum header =
     field roles.bulkIdentifier (text "MsgId") (bulkIdentifierOf header)
     (field roles.statedNumber (text "NbOfTxs") (decimalText (statedNumberOf header))
-    (field roles.statedSum (text sum) (amountText (statedSumOf header))
+    (field roles.statedSum (text sum) (euroText (statedSumOf header))
     (field roles.valueDate (text "IntrBkSttlmDt") (dateText (valueDateOf header))
     (group roles.settlement (text "SttlmInf") (settled (clears (marksOf header)) (ownSystem (marksOf header)))
     (group roles.senderAgent (text "InstgAgt") (institution roles.senderInstitution roles.sender (senderOf header))
@@ -62,15 +63,15 @@ abbrev pub paymentOf : List ℕ → Markup
 paymentOf message =
     group roles.paymentIdentification (text "PmtId") (field roles.identifier (text "TxId") (identifierOf message) nothing)
     (receiverOf' message
-    (field roles.amount (text "IntrBkSttlmAmt") (amountText (amountOf message))
+    (field roles.amount (text "IntrBkSttlmAmt") (euroText (amountOf message))
     nothing))
 
 abbrev pub returnOf : List ℕ → Markup
 returnOf message =
     field roles.identifier (text "RtrId") (identifierOf message)
     (group roles.originalReference (text "OrgnlTxRef") (receiverOf' message nothing)
-    (field roles.amount (text "RtrdIntrBkSttlmAmt") (amountText (amountOf message))
-    (field roles.originalAmount (text "OrgnlIntrBkSttlmAmt") (amountText (originalOf message))
+    (field roles.amount (text "RtrdIntrBkSttlmAmt") (euroText (amountOf message))
+    (field roles.originalAmount (text "OrgnlIntrBkSttlmAmt") (euroText (originalOf message))
     (group roles.reasonInformation (text "RtrRsnInf") (group roles.reasonGroup (text "Rsn") (field roles.reason (text "Cd") (reasonOf message) nothing) nothing)
     (group roles.originalGroup (text "OrgnlGrpInf") (field roles.originalName (text "OrgnlMsgNmId") (nameOf message) nothing)
     nothing)))))

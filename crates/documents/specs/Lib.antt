@@ -1,4 +1,5 @@
 pub mod Spelling
+pub mod Amounts
 pub mod Markup
 pub mod Carried
 pub mod Documents

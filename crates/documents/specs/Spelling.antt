@@ -15,10 +15,6 @@ pub data Way : Type 0 where
   hexadecimally : Way
   byName : Way
 
--- '<', '&', '>' and a carriage return never stand as they are
-abbrev pub referred : ℕ → Bool
-referred c = eqb c 60 || eqb c 38 || eqb c 62 || eqb c 13
-
 abbrev pub decimalReference : ℕ → List ℕ
 decimalReference c = text "&#" ++ (decimal c ++ text ";")
 
@@ -28,20 +24,27 @@ hexadecimalDigit d = cond (ltb d 10) (48 + d) (55 + d)
 abbrev pub hexadecimalReference : ℕ → List ℕ
 hexadecimalReference c = text "&#x" ++ (hexadecimalDigit (c / 16) ∷ hexadecimalDigit (c % 16) ∷ text ";")
 
-abbrev pub namedReference : ℕ → List ℕ
-namedReference c =
+-- '<', '&', '>' and a carriage return never stand as they are
+abbrev pub referred : ℕ → Bool
+referred c = eqb c 60 || eqb c 38 || eqb c 62 || eqb c 13
+
+abbrev pub plainly : ℕ → List ℕ
+plainly c = cond (referred c) (decimalReference c) (c ∷ [])
+
+abbrev pub namedOr : List ℕ → ℕ → List ℕ
+namedOr other c =
     cond (eqb c 60) (text "&lt;")
     (cond (eqb c 62) (text "&gt;")
     (cond (eqb c 38) (text "&amp;")
     (cond (eqb c 39) (text "&apos;")
     (cond (eqb c 34) (text "&quot;")
-    (decimalReference c)))))
+    other))))
 
 unfoldable pub spelledBy : Way → ℕ → List ℕ
-spelledBy itself c = cond (referred c) (decimalReference c) (c ∷ [])
+spelledBy itself c = plainly c
 spelledBy decimally c = decimalReference c
 spelledBy hexadecimally c = hexadecimalReference c
-spelledBy byName c = namedReference c
+spelledBy byName c = namedOr (plainly c) c
 
 -- ---- a text
 
