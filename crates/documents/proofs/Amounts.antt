@@ -1,15 +1,14 @@
 -- An amount that is written means itself, in each of its three forms. Assumes nothing.
-use mathlib.Core.Path.{_≡_, refl, sym, ap, _∙_}
-use mathlib.Core.Bool.{Bool, true, false, cond, _&&_, _||_, or-true, and-eq-true-iff, false≢true}
-use mathlib.Core.List.{List, [], _∷_, _++_, append-nil}
-use Prim.Native.Nat.{ℕ, zero, suc, _+_, _*_, _/_, _%_, _^_, _≤_, _<_}
+use mathlib.Core.Path.{_≡_, refl, ap, _∙_}
+use mathlib.Core.Bool.{Bool, true, false, cond, _&&_, _||_, or-true, and-eq-true-iff}
+use mathlib.Core.List.{List, [], _∷_, _++_}
+use Prim.Native.Nat.{ℕ, suc, _+_, _*_, _/_, _%_, _^_, _≤_, _<_}
 use native.Mathlib.Omega.{arith}
 use lib.Dec.{eqb, ltb}
 use lib.ListN.{length, take, drop, replicate, drop-of-length-le}
 use lib.Seq.{take-at, take-length, getD-at}
-use borrow.Author.Tests.{lt-ltb, le-leb, eqb-true, ltb-true, ltb-false}
+use borrow.Author.Tests.{lt-ltb, le-leb, eqb-true, ltb-true}
 use Rattle.letters.specs.Places.{byteAt, run}
-use Rattle.letters.specs.Characters.{single}
 use Rattle.letters.specs.References.{digitOf, numeralFrom}
 use Rattle.decimals.specs.Decimal.{digitsOf, decimal as printed}
 use Rattle.decimals.proofs.Decimals.{digits-length}

@@ -1,9 +1,8 @@
 -- One bulk: its document fits, lacks nothing, and comes back as the bulk. Assumes nothing.
 use mathlib.Core.Path.{_≡_, refl, sym, ap, _∙_}
-use mathlib.Core.Bool.{Bool, true, false, cond, _||_, false≢true}
-use mathlib.Core.List.{List, [], _∷_, _++_, map, append-nil}
-use Prim.Native.String.{String}
-use Prim.Native.Nat.{ℕ, zero, suc, _+_, _*_}
+use mathlib.Core.Bool.{Bool, true, false, cond, _||_}
+use mathlib.Core.List.{List, [], map, append-nil}
+use Prim.Native.Nat.{ℕ, _+_, _*_}
 use lib.Dec.{eqb}
 use borrow.Author.Tests.{eqb-true}
 use Rattle.wire.specs.Field.{text, bit, same}
@@ -14,11 +13,11 @@ use Rattle.paths.specs.Roles as roles
 use Rattle.paths.specs.Table.{among, childRole, allMet, lacks}
 use Rattle.fields.specs.Fields.{fieldBytes, isClearing, isSystem}
 use Rattle.documents.specs.Amounts.{euroText}
-use Rattle.documents.specs.Markup.{Markup, nothing, field, group}
+use Rattle.documents.specs.Markup.{Markup}
 use Rattle.documents.specs.Carried.{CarriedHeader, CarriedMessages, CarriedBulk}
 use Rattle.documents.specs.Documents.{clears, ownSystem, received, methodText, systemText, headerOf, paymentOf, returnOf, eachOf, paymentsOf, returnsOf, contentOf}
 use Rattle.documents.proofs.Here.{all}
-use Rattle.documents.proofs.Elements.{GroupFits, Fitting}
+use Rattle.documents.proofs.Elements.{Fitting}
 use Rattle.documents.proofs.Questions.{textIn, thereIn, countIn, lackIn, messagesOf, headerIn, messageIn}
 use Rattle.documents.proofs.Each.{one, each-silent, each-absent, each-count, each-complete, each-messages, each-fits, each-back}
 use Rattle.documents.proofs.Messages.{payment-complete, payment-below, payment-lone, payment-fits, payment-back, return-complete, return-below, return-lone, return-fits, return-back}

@@ -1,12 +1,12 @@
 -- Messages one after the other: what holds of each, and what is asked of all. Assumes nothing.
-use mathlib.Core.Path.{_≡_, refl, sym, ap, _∙_}
-use mathlib.Core.Bool.{Bool, true, false, cond, _||_}
-use mathlib.Core.List.{List, [], _∷_, _++_, map}
-use Prim.Native.Nat.{ℕ, zero, suc}
+use mathlib.Core.Path.{_≡_, refl, ap, _∙_}
+use mathlib.Core.Bool.{Bool, true, false, cond}
+use mathlib.Core.List.{List, [], _∷_, map}
+use Prim.Native.Nat.{ℕ, suc}
 use lib.Dec.{eqb}
 use Rattle.paths.specs.Roles as roles
 use Rattle.paths.specs.Table.{lacks}
-use Rattle.documents.specs.Markup.{Markup, nothing, field, group}
+use Rattle.documents.specs.Markup.{Markup, nothing, group}
 use Rattle.documents.specs.Carried.{CarriedMessage, CarriedMessages}
 use Rattle.documents.specs.Documents.{eachOf}
 use Rattle.documents.proofs.Elements.{GroupFits, Fitting}

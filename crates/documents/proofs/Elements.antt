@@ -1,8 +1,8 @@
 -- Elements that are written are read, each in its role. Assumes nothing.
-use mathlib.Core.Path.{_≡_, refl, sym, ap, _∙_}
-use mathlib.Core.Bool.{Bool, true, false, cond, not, _||_, false≢true}
+use mathlib.Core.Path.{_≡_, refl, ap, _∙_}
+use mathlib.Core.Bool.{Bool, true, false, cond, false≢true}
 use mathlib.Core.List.{List, [], _∷_, _++_}
-use Prim.Native.Nat.{ℕ, zero, suc, _+_, _≤_, _<_}
+use Prim.Native.Nat.{ℕ, zero, suc, _+_, _<_}
 use native.Mathlib.Omega.{arith}
 use lib.Dec.{eqb}
 use lib.ListN.{length, drop, getD}
@@ -10,20 +10,20 @@ use Rattle.wire.specs.Field.{text}
 use Rattle.letters.specs.Places.{byteAt}
 use Rattle.letters.specs.declared.Reach.the-variants.{To}
 use Rattle.tags.specs.Names.{nameStart, nameByte, nameEnd, nameAt}
-use Rattle.tags.specs.Tags.{startAt, endAt}
+use Rattle.tags.specs.Tags.{startAt}
 use Rattle.tags.specs.declared.Tag.the-variants.{Open}
 use Rattle.prose.specs.Prose.{textAt, saidAt}
 use Rattle.paths.specs.Roles as roles
 use Rattle.paths.specs.Table.{childRole}
 use Rattle.fields.specs.Fields.{fits}
 use Rattle.elements.specs.Forest.{Forest, none, tree, beside}
-use Rattle.elements.specs.Grammar.{Parsed, read, onRead, onReached, provided, inEuros, filledField, fieldAt, whole, contentBy, groupAt, elementAt}
+use Rattle.elements.specs.Grammar.{Parsed, read, inEuros, filledField, fieldAt, contentBy, elementAt}
 use Rattle.elements.proofs.Forward.{content-ends, content-child, element-onward}
 use Rattle.documents.specs.Spelling.{Spelling, spelled}
 use Rattle.documents.specs.Markup.{Markup, nothing, field, group, attributesOf, openTo, closeTo, writtenTo}
 use Rattle.documents.specs.Carried.{characters}
 use Rattle.documents.proofs.Here.{byte-here, byte-further, next-here, skip-here}
-use Rattle.documents.proofs.Texts.{TextRead, text-reads, text-over}
+use Rattle.documents.proofs.Texts.{text-reads, text-over}
 use Rattle.documents.proofs.Tags.{isName, name-ends, name-here, starts-here, plain-start, euro-start, says-euros, end-here, end-past}
 
 -- ---- markup that fits: in an element of a role, with so many levels left

@@ -1,28 +1,26 @@
 -- The text that is written of a field is of its form, and becomes the field's own bytes. Assumes nothing.
 use mathlib.Core.Path.{_≡_, refl, sym, ap, _∙_}
-use mathlib.Core.Bool.{Bool, true, false, cond, not, _&&_, _||_, or-true, and-eq-true-iff}
+use mathlib.Core.Bool.{Bool, true, false, cond, _||_, or-true, and-eq-true-iff}
 use mathlib.Core.List.{List, [], _∷_, _++_, append-nil}
-use Prim.Native.Nat.{ℕ, zero, suc, _+_, _-_, _/_, _%_, _^_, _≤_, _<_}
+use Prim.Native.Nat.{ℕ, suc, _+_, _/_, _%_, _^_, _≤_, _<_}
 use native.Mathlib.Omega.{arith}
 use lib.Dec.{eqb, leb, ltb}
 use lib.ListN.{length, take, drop, replicate}
 use lib.Seq.{take-at, take-add, drop-drop}
-use borrow.Author.Tests.{le-leb, ne-eqb}
-use Rattle.wire.specs.Field.{Bytes, part, bytesOf, numberOf, numberAt}
+use borrow.Author.Tests.{le-leb}
+use Rattle.wire.specs.Field.{Bytes, part, bytesOf, numberAt}
 use Rattle.wire.proofs.Numbers.{read-written}
 use Rattle.wire.proofs.Texts.{part-bytes, part-length}
-use Rattle.letters.specs.Places.{byteAt}
-use Rattle.letters.specs.Characters.{single, widthAt}
+use Rattle.letters.specs.Characters.{single}
 use Rattle.letters.proofs.Characters.{width-first}
 use Rattle.decimals.specs.Decimal.{digitsOf}
-use Rattle.meanings.specs.Meanings.{digits, isNumber, isDate, isAmount, numberMeant, amountMeant, dateMeant, filled, receiver}
+use Rattle.meanings.specs.Meanings.{digits, isNumber, isDate, isAmount, amountMeant, filled, receiver}
 use Rattle.meanings.specs.Written.{decimalText, amountText, dateText}
-use Rattle.meanings.specs.declared.Meant.{Meant}
 use Rattle.meanings.specs.declared.Meant.the-variants.{Is, Nothing}
 use Rattle.meanings.proofs.Decimals.{digits-both, digit-bounds}
 use Rattle.meanings.proofs.Written.{number-written, date-written, shown-digits, printed-digits}
 use Rattle.paths.specs.Roles as roles
-use Rattle.fields.specs.Fields.{widthOf, isMark, fits, fieldBytes, meantBytes}
+use Rattle.fields.specs.Fields.{fits, fieldBytes, meantBytes}
 use Rattle.fields.proofs.Computing.{fieldsCompute}
 use Rattle.documents.specs.Amounts.{carriedAmount, tenthsText, euroText}
 use Rattle.documents.specs.Carried.{charactersBy, characters}

@@ -1,13 +1,13 @@
 -- The first character of a text: one byte, or several that are high. Assumes nothing.
-use mathlib.Core.Path.{_≡_, refl, sym, ap, _∙_}
-use mathlib.Core.Bool.{Bool, true, false, cond, not, _&&_, _||_, false≢true}
+use mathlib.Core.Path.{_≡_, refl, sym, _∙_}
+use mathlib.Core.Bool.{Bool, true, false, cond, not, _&&_, false≢true}
 use mathlib.Core.List.{List, [], _∷_, _++_}
-use Prim.Native.Nat.{ℕ, zero, suc, _+_, _≤_, _<_}
+use Prim.Native.Nat.{ℕ, suc, _≤_}
 use native.Mathlib.Omega.{arith}
 use lib.Dec.{eqb, leb, ltb}
 use lib.ListN.{length, drop, getD}
 use borrow.Author.Tests.{ne-eqb, le-leb}
-use Rattle.letters.specs.Places.{byteAt, within}
+use Rattle.letters.specs.Places.{within}
 use Rattle.letters.specs.Characters.{single, double, triple, quadruple, later, widthOf, widthAt}
 use Rattle.letters.proofs.Characters.{front-true, back-true, within-true, width-double, width-triple, width-quadruple, width-bytes}
 use Rattle.documents.specs.Carried.{charactersBy}
@@ -27,17 +27,17 @@ pub data First (n : ℕ) (t : List ℕ) : Type 0 where
 later-high : (b : ℕ) → later b ≡ true → 128 ≤ b
 later-high b e = within-true 128 191 b e .0
 
-none-later : later 0 ≡ true → ⊥
+pub none-later : later 0 ≡ true → ⊥
 none-later e = false≢true e
 
 module _ (a b c d : ℕ) where
-  double-high : double a b ≡ true → (128 ≤ a) × (later b ≡ true)
+  pub double-high : double a b ≡ true → (128 ≤ a) × (later b ≡ true)
   double-high e = (omega (arith, within-true 194 223 a (front-true (within 194 223 a) (later b) e)), back-true (within 194 223 a) (later b) e)
 
   abbrev led : Bool
   led = within 224 239 a && later b && later c
 
-  triple-high : triple a b c ≡ true → (128 ≤ a) × (later b ≡ true) × (later c ≡ true)
+  pub triple-high : triple a b c ≡ true → (128 ≤ a) × (later b ≡ true) × (later c ≡ true)
   triple-high e =
       let p = not (eqb a 224 && ltb b 160) in
       let q = not (eqb a 237 && leb 160 b) in
@@ -48,7 +48,7 @@ module _ (a b c d : ℕ) where
   abbrev lead : Bool
   lead = within 240 244 a && later b && later c && later d
 
-  quadruple-high : quadruple a b c d ≡ true → (128 ≤ a) × (later b ≡ true) × (later c ≡ true) × (later d ≡ true)
+  pub quadruple-high : quadruple a b c d ≡ true → (128 ≤ a) × (later b ≡ true) × (later c ≡ true) × (later d ≡ true)
   quadruple-high e =
       let p = not (eqb a 240 && ltb b 144) in
       let four = front-true lead p (front-true (lead && p) _ e) in

@@ -1,12 +1,11 @@
 -- One header: its elements fit, lack nothing, and come back as the header. Assumes nothing.
-use mathlib.Core.Path.{_≡_, refl, sym, ap, _∙_}
-use mathlib.Core.Bool.{Bool, true, false, cond, _||_}
-use mathlib.Core.List.{List, [], _∷_, _++_}
+use mathlib.Core.Path.{_≡_, refl}
+use mathlib.Core.Bool.{Bool, true, false}
+use mathlib.Core.List.{List, [], _++_}
 use Prim.Native.String.{String}
-use Prim.Native.Nat.{ℕ, zero, suc, _+_, _*_, _≤_, _<_}
+use Prim.Native.Nat.{ℕ, _+_, _*_, _≤_, _<_}
 use native.Mathlib.Omega.{arith}
 use lib.Dec.{eqb, lit≤}
-use lib.ListN.{length}
 use lib.Seq.{take-all}
 use Rattle.wire.specs.Field.{text, part, numberOf, bytesOf, bit, same}
 use Rattle.wire.specs.Places.{everyFrom}
@@ -27,7 +26,7 @@ use Rattle.documents.specs.Carried.{charactersBy, characters, CarriedHea
 use Rattle.documents.specs.Documents.{clears, ownSystem, received, methodText, systemText, recipientIf, headerOf}
 use Rattle.documents.proofs.Here.{all}
 use Rattle.documents.proofs.Tags.{isName}
-use Rattle.documents.proofs.Elements.{FieldFits, GroupFits, Fitting}
+use Rattle.documents.proofs.Elements.{Fitting}
 use Rattle.documents.proofs.Questions.{textIn, thereIn, countIn, lackIn, messagesOf}
 use Rattle.documents.proofs.Fields.{Carries, number-back, part-then, bulk-identifier-carries, sender-carries, number-carries, sum-carries, date-carries}
 use Rattle.documents.proofs.Messages.{fitting-field}
@@ -92,9 +91,6 @@ headed sum h rest =
     rest)))))
 
 module _ (sum : String) (h : List ℕ) where
-  same-header : headerOf sum h ≡ headed sum h (recipientIf (received (marksOf h)))
-  same-header = refl
-
   pub header-lone : messagesOf (headerOf sum h) ≡ []
   unfolding messagesOf
   header-lone = by-recipient (received (marksOf h))

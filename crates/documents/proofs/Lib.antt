@@ -13,5 +13,8 @@ pub mod Headers
 pub mod Bulks
 pub mod Roots
 pub mod ReadBack
+pub mod Limits
+pub mod Wides
+pub mod Sayings
 pub mod Instances
 pub mod Cases

@@ -1,27 +1,25 @@
 -- One message: its elements fit, lack nothing, and come back as the message. Assumes nothing.
 use mathlib.Core.Path.{_≡_, refl, sym, ap, _∙_}
-use mathlib.Core.Bool.{Bool, true, false, cond}
-use mathlib.Core.List.{List, [], _∷_, _++_}
-use Prim.Native.Nat.{ℕ, zero, suc, _+_, _≤_, _<_}
+use mathlib.Core.Bool.{true, false}
+use mathlib.Core.List.{List, [], _++_}
+use Prim.Native.Nat.{ℕ}
 use native.Mathlib.Omega.{arith}
-use lib.ListN.{length, drop, take, replicate}
+use lib.ListN.{length}
 use lib.Seq.{take-all}
-use Rattle.wire.specs.Field.{text, part, bytesOf, same, Bytes}
+use Rattle.wire.specs.Field.{text, part, bytesOf, same}
 use Rattle.wire.proofs.Numbers.{number-small}
 use Rattle.sheet.specs.Sheet.{messageWidth, paymentKind, returnKind, identifierOf, receiverOf, amountOf, originalOf, reasonOf, nameOf}
 use Rattle.sheet.proofs.Fields.{identifier-long, receiver-long, reason-long, name-long}
 use Rattle.tags.specs.Names.{nameStart, nameByte}
 use Rattle.paths.specs.Roles as roles
 use Rattle.paths.specs.Table.{among, childRole, allMet, lacks}
-use Rattle.fields.specs.Fields.{fieldBytes}
 use Rattle.documents.specs.Amounts.{euroText}
-use Rattle.documents.specs.Markup.{Markup, nothing, field, group}
 use Rattle.documents.specs.Carried.{CarriedMessage}
 use Rattle.documents.specs.Documents.{paymentOf, returnOf}
 use Rattle.documents.proofs.Here.{all}
 use Rattle.documents.proofs.Tags.{isName}
-use Rattle.documents.proofs.Elements.{FieldFits, GroupFits, Fitting}
-use Rattle.documents.proofs.Questions.{textIn, countIn, lackIn, messagesOf, bytesIn, messageIn}
+use Rattle.documents.proofs.Elements.{FieldFits, Fitting}
+use Rattle.documents.proofs.Questions.{textIn, countIn, lackIn, messagesOf, messageIn}
 use Rattle.documents.proofs.Fields.{Carries, number-back, part-then, identifier-carries, receiver-carries, amount-carries, original-carries, reason-carries, name-carries, no-amount, no-reason, no-name}
 use Rattle.documents.proofs.Each.{one}
 

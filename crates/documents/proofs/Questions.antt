@@ -2,11 +2,10 @@
 use mathlib.Core.Path.{_≡_, refl, sym, ap, _∙_}
 use mathlib.Core.Bool.{Bool, true, false, cond, not, _||_, false≢true}
 use mathlib.Core.List.{List, [], _∷_, _++_, map, map-append}
-use Prim.Native.Nat.{ℕ, zero, suc, _+_, _*_, _≤_, _<_, min}
+use Prim.Native.Nat.{ℕ, suc, _+_, _*_, _<_}
 use native.Mathlib.Omega.{arith}
 use lib.Dec.{eqb}
-use lib.ListN.{length}
-use borrow.Author.Tests.{ne-eqb, leb-true, eqb-true}
+use borrow.Author.Tests.{ne-eqb, leb-true}
 use Rattle.wire.specs.Field.{bit, bytesOf}
 use Rattle.wire.proofs.Sides.{both-false}
 use Rattle.sheet.specs.Sheet.{kindWidth, marksWidth, paymentKind, returnKind}

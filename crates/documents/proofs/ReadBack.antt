@@ -1,10 +1,9 @@
 -- The round trip: what is written of bulks that documents can carry is read as exactly their sheet. Assumes nothing.
-use mathlib.Core.Path.{_≡_, refl, sym, ap, _∙_}
-use mathlib.Core.Bool.{Bool, true, false, cond, _&&_}
+use mathlib.Core.Path.{_≡_, refl, ap, _∙_}
+use mathlib.Core.Bool.{Bool, true, false, cond}
 use mathlib.Core.List.{List, [], _∷_, _++_}
-use Prim.Native.Nat.{ℕ, zero, suc, _+_, _^_, _≤_, _<_}
+use Prim.Native.Nat.{ℕ, _^_, _≤_, _<_}
 use native.Mathlib.Omega.{arith}
-use lib.Dec.{ltb, leb}
 use lib.ListN.{length, drop}
 use lib.Seq.{sets, drop-append-seam}
 use borrow.Author.Tests.{lt-ltb, le-ltb, le-leb, lt-leb}
@@ -20,7 +19,7 @@ use Rattle.reading.specs.Text.{rootsAt, parsed}
 use Rattle.reading.specs.Meaning.{bulksIn, sheetIn, allCountable, fitsIn}
 use Rattle.reading.specs.Reading.{answered, whenMade, outcome, outcomeOf, reads}
 use Rattle.reading.specs.declared.Reading.{Reading}
-use Rattle.reading.specs.declared.Reading.the-variants.{Made, Form, Deep, Lack, Short}
+use Rattle.reading.specs.declared.Reading.the-variants.{Made, Short}
 use Rattle.documents.specs.Spelling.{Spelling}
 use Rattle.documents.specs.Markup.{writtenTo}
 use Rattle.documents.specs.Carried.{Carried}

@@ -1,33 +1,33 @@
 -- The documents one after the other: each is read as its bulk. Assumes nothing.
 use mathlib.Core.Path.{_≡_, refl, sym, ap, _∙_}
-use mathlib.Core.Bool.{Bool, true, false, cond, _&&_}
+use mathlib.Core.Bool.{true, cond}
 use mathlib.Core.List.{List, [], _∷_, _++_, map, append-nil}
-use Prim.Native.Nat.{ℕ, zero, suc, _+_, _^_, _≤_, _<_, min}
+use Prim.Native.Nat.{ℕ, _+_, _^_, min}
 use native.Mathlib.Omega.{arith}
-use lib.Dec.{eqb, ltb}
+use lib.Dec.{ltb}
 use lib.ListN.{length, drop, length-map}
 use borrow.Author.Tests.{lt-ltb}
 use Rattle.wire.specs.Field.{text, same}
 use Rattle.sheet.specs.Sheet.{Bulk}
 use Rattle.letters.specs.Places.{run}
-use Rattle.tags.specs.Names.{isSpace, nameStart, nameByte, spaceEnd, nameAt}
+use Rattle.tags.specs.Names.{isSpace, nameStart, nameByte, spaceEnd}
 use Rattle.paths.specs.Roles as roles
 use Rattle.paths.specs.Table.{lacks, rootRole}
 use Rattle.records.specs.Records.{headerOf, messageOf}
 use Rattle.elements.specs.Forest.{Forest, none, tree, beside, countOf}
-use Rattle.elements.specs.Grammar.{Parsed, read, onRead, elementAt}
+use Rattle.elements.specs.Grammar.{Parsed, read}
 use Rattle.elements.specs.Questions.{firstLack, placeIn, messagesIn}
 use Rattle.reading.specs.Text.{documentAt, rootsAt}
 use Rattle.reading.specs.Meaning.{placesIn, bulkIn, bulksIn, allCountable}
 use Rattle.reading.proofs.Roots.{roots-end, roots-document}
 use Rattle.documents.specs.Spelling.{Spelling}
-use Rattle.documents.specs.Markup.{Markup, nothing, field, group, closeTo, writtenTo}
+use Rattle.documents.specs.Markup.{nothing, group, closeTo, writtenTo}
 use Rattle.documents.specs.Carried.{CarriedBulk, CarriedEach}
 use Rattle.documents.specs.Documents.{contentOf, documents}
 use Rattle.documents.proofs.Here.{all, byte-here, inside-here, past-here}
 use Rattle.documents.proofs.Tags.{no-space, end-past}
-use Rattle.documents.proofs.Elements.{Means, ContentRead, group-inside, group-name, group-reads, content-reads}
-use Rattle.documents.proofs.Questions.{lacks-in, complete-in, header-in, messages-in, headerIn, messageIn, messagesOf}
+use Rattle.documents.proofs.Elements.{Means, group-inside, group-name, group-reads, content-reads}
+use Rattle.documents.proofs.Questions.{lacks-in, complete-in, header-in, messages-in}
 use Rattle.documents.proofs.Bulks.{Told, bulk-told}
 
 -- ---- one document

@@ -3,21 +3,21 @@ use mathlib.Core.Path.{_≡_, refl, sym, ap, _∙_}
 use mathlib.Core.Bool.{Bool, true, false, cond, not, _&&_, _||_, and-eq-true-iff, and-false, false≢true}
 use mathlib.Core.Logic.{_⊎_, inl, inr}
 use mathlib.Core.List.{List, [], _∷_, _++_}
-use Prim.Native.Nat.{ℕ, zero, suc, _+_, _-_, _≤_, _<_}
+use Prim.Native.Nat.{ℕ, zero, suc, _+_, _≤_, _<_}
 use native.Mathlib.Nat.{add-sub-cancel-left}
 use native.Mathlib.Omega.{arith}
 use lib.Dec.{eqb, ltb}
-use lib.ListN.{length, take, drop, getD}
+use lib.ListN.{length, take, drop}
 use lib.Seq.{drop-drop, getD-drop}
 use borrow.Author.Tests.{eqb-true, lt-ltb, le-ltb, ne-eqb, not-true}
-use Rattle.wire.specs.Field.{text, part, same}
+use Rattle.wire.specs.Field.{text, same}
 use Rattle.wire.specs.Places.{everyFrom}
 use Rattle.wire.proofs.Scans.{every-holds}
 use Rattle.wire.proofs.Sides.{le-or-lt}
 use Rattle.wire.proofs.Texts.{same-equal}
-use Rattle.letters.specs.Places.{byteAt, run, runEnd, between}
+use Rattle.letters.specs.Places.{byteAt, run, between}
 use Rattle.letters.specs.Characters.{isCharacter, single}
-use Rattle.letters.specs.References.{digitOf, digitIn, numeralFrom, numeral, numbered, numberedAt, stands, referenceAt}
+use Rattle.letters.specs.References.{digitOf, digitIn, numeralFrom, numeral, numberedAt, stands, referenceAt}
 use Rattle.letters.specs.declared.Reference.{Reference}
 use Rattle.letters.specs.declared.Reference.the-variants.{Stands, Nothing}
 use Rattle.decimals.specs.Decimal.{digitsOf, decimalIn, decimal}

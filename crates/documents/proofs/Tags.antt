@@ -1,22 +1,21 @@
 -- Tags as they are written, without an attribute and with the currency. Assumes nothing.
 use mathlib.Core.Path.{_≡_, refl, sym, ap, _∙_}
-use mathlib.Core.Bool.{Bool, true, false, cond, _&&_, and-eq-true-iff, false≢true}
+use mathlib.Core.Bool.{Bool, true, false, _&&_, and-eq-true-iff, false≢true}
 use mathlib.Core.List.{List, [], _∷_, _++_}
-use Prim.Native.Nat.{ℕ, zero, suc, _+_, _≤_, _<_}
+use Prim.Native.Nat.{ℕ, _+_, _<_}
 use native.Mathlib.Omega.{arith}
-use lib.Dec.{eqb, ltb}
+use lib.Dec.{eqb}
 use lib.ListN.{length, drop, getD}
 use lib.Seq.{drop-drop}
-use borrow.Author.Tests.{eq-eqb, lt-ltb}
 use Rattle.wire.specs.Field.{text, same}
-use Rattle.letters.specs.Places.{byteAt, matches, expected, onReach, walk}
+use Rattle.letters.specs.Places.{byteAt}
 use Rattle.letters.specs.Characters.{single}
 use Rattle.letters.specs.declared.Reach.the-variants.{To}
 use Rattle.letters.specs.declared.Turn.the-variants.{On, Ends}
 use Rattle.letters.proofs.Characters.{width-first}
 use Rattle.tags.specs.Names.{isSpace, nameStart, nameByte, spaceEnd, nameEnd, nameAt}
-use Rattle.tags.specs.Attributes.{valueTurn, valueAt, equalsAt, quoteAt, attributeAt, named, attributeTurn, attributesAt, someAttribute, spells, inEuros, euros}
-use Rattle.tags.specs.Tags.{closedAt, startAt, endAt}
+use Rattle.tags.specs.Attributes.{valueTurn, valueAt, equalsAt, quoteAt, attributeAt, named, attributesAt, spells, inEuros, euros}
+use Rattle.tags.specs.Tags.{startAt, endAt}
 use Rattle.tags.specs.declared.Tag.the-variants.{Open}
 use Rattle.tags.proofs.Values.{value-turn}
 use Rattle.tags.proofs.AttributeWalk.{attribute-value, turn-plain, turn-on, attributes-turn}

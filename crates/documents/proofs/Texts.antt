@@ -1,33 +1,32 @@
 -- A spelled text ends where it was written to, and says what was spelled. Assumes nothing.
 use mathlib.Core.Path.{_≡_, refl, sym, ap, _∙_}
 use mathlib.Core.Logic.{_⊎_, inl, inr}
-use mathlib.Core.Bool.{Bool, true, false, cond, not, _&&_, _||_, and-false, and-eq-true-iff, false≢true}
+use mathlib.Core.Bool.{true, false, _||_, and-false, and-eq-true-iff, false≢true}
 use mathlib.Core.List.{List, [], _∷_, _++_, append-assoc}
 use Prim.Native.Nat.{ℕ, zero, suc, _+_, _≤_, _<_}
 use native.Mathlib.Omega.{arith}
-use lib.Dec.{eqb, leb, ltb}
+use lib.Dec.{eqb}
 use lib.ListN.{length, take, drop, getD, length-append}
-use borrow.Author.Tests.{eq-eqb, ne-eqb, eqb-true, eqb-false, le-ltb, lt-ltb, le-leb, lt-leb, leb-true}
-use Rattle.wire.specs.Field.{text, part, same}
+use borrow.Author.Tests.{ne-eqb, eqb-true, le-ltb, lt-ltb, le-leb, lt-leb, leb-true}
+use Rattle.wire.specs.Field.{same}
 use Rattle.wire.proofs.Sides.{le-or-lt, both-false}
-use Rattle.letters.specs.Places.{byteAt, within, onTurn, walk}
-use Rattle.letters.specs.Characters.{single, widthAt, encoded}
+use Rattle.letters.specs.Places.{byteAt, onTurn}
+use Rattle.letters.specs.Characters.{single, widthAt}
 use Rattle.letters.specs.References.{stands, referenceAt}
 use Rattle.letters.specs.declared.Reach.the-variants.{To}
 use Rattle.letters.specs.declared.Turn.{Turn}
-use Rattle.letters.specs.declared.Turn.the-variants.{On, Ends, Breaks}
+use Rattle.letters.specs.declared.Turn.the-variants.{On, Ends}
 use Rattle.letters.specs.declared.Reference.the-variants.{Stands}
 use Rattle.letters.proofs.Characters.{encoded-one, width-first}
 use Rattle.letters.proofs.References.{reference-forward, stands-differs}
 use Rattle.letters.proofs.Walks.{walk-turn}
 use Rattle.prose.specs.Prose.{sectionStart, sectionEnd, textTurn, textAt, pieceAt, saidAt}
-use Rattle.prose.specs.declared.Piece.{Piece}
-use Rattle.prose.specs.declared.Piece.the-variants.{Itself, Other, Turns, Silent}
+use Rattle.prose.specs.declared.Piece.the-variants.{Itself, Other, Silent}
 use Rattle.prose.proofs.Turns.{text-onward}
 use Rattle.prose.proofs.Pieces.{said-piece}
-use Rattle.documents.specs.Spelling.{Way, referred, spelledBy, Spelling, spelled}
-use Rattle.documents.specs.Carried.{charactersBy, characters}
-use Rattle.documents.proofs.Here.{byte-here, byte-further, next-here, skip-here, part-here, all}
+use Rattle.documents.specs.Spelling.{spelledBy, Spelling, spelled}
+use Rattle.documents.specs.Carried.{charactersBy}
+use Rattle.documents.proofs.Here.{byte-here, skip-here, part-here, all}
 use Rattle.documents.proofs.Spelled.{Spelt, plain, refers-to, spelt-here, spelled-unended}
 use Rattle.documents.proofs.Firsts.{high, First, short, long, first-of}
 

@@ -1,4 +1,4 @@
--- The bulks that documents can carry. Assumes nothing.
+-- The bulks that documents can carry: each limit is one of the reader's own (`NothingElse`). Assumes nothing.
 use Prim.Native.Nat.{ℕ, zero, suc, _^_, _<_}
 use mathlib.Core.Path.{_≡_}
 use mathlib.Core.Bool.{Bool, true, not, _&&_, _||_}

@@ -36,14 +36,14 @@ settled clearing own =
     (group roles.clearing (text "ClrSys") (field roles.system (text "Prtry") (systemText own) nothing)
     nothing)
 
--- an institution by its BIC
+-- an institution by its BIC; the roles of the two elements go by whose it is
 abbrev pub institution : ℕ → ℕ → List ℕ → Markup
-institution group' field' bic = group group' (text "FinInstnId") (field field' (text "BICFI") bic nothing) nothing
+institution holder held bic = group holder (text "FinInstnId") (field held (text "BICFI") bic nothing) nothing
 
 abbrev pub recipientIf : Bool → Markup
 recipientIf there = cond there (group roles.recipient (text "InstdAgt") nothing nothing) nothing
 
--- with the name of the sum's element
+-- the sum's element is named by the kind of the bulk
 abbrev pub headerOf : String → List ℕ → Markup
 headerOf sum header =
     field roles.bulkIdentifier (text "MsgId") (bulkIdentifierOf header)
@@ -56,27 +56,28 @@ headerOf sum header =
 
 -- ---- the messages
 
-abbrev pub receiverOf' : List ℕ → Markup → Markup
-receiverOf' message rest = group roles.receiverAgent (text "CdtrAgt") (institution roles.receiverInstitution roles.receiver (receiverOf message)) rest
+-- the receiver and what follows; its 11 bytes are written whole, so that eight characters and three spaces come back as they were
+abbrev pub receiverThen : List ℕ → Markup → Markup
+receiverThen message rest = group roles.receiverAgent (text "CdtrAgt") (institution roles.receiverInstitution roles.receiver (receiverOf message)) rest
 
 abbrev pub paymentOf : List ℕ → Markup
 paymentOf message =
     group roles.paymentIdentification (text "PmtId") (field roles.identifier (text "TxId") (identifierOf message) nothing)
-    (receiverOf' message
+    (receiverThen message
     (field roles.amount (text "IntrBkSttlmAmt") (euroText (amountOf message))
     nothing))
 
 abbrev pub returnOf : List ℕ → Markup
 returnOf message =
     field roles.identifier (text "RtrId") (identifierOf message)
-    (group roles.originalReference (text "OrgnlTxRef") (receiverOf' message nothing)
+    (group roles.originalReference (text "OrgnlTxRef") (receiverThen message nothing)
     (field roles.amount (text "RtrdIntrBkSttlmAmt") (euroText (amountOf message))
     (field roles.originalAmount (text "OrgnlIntrBkSttlmAmt") (euroText (originalOf message))
     (group roles.reasonInformation (text "RtrRsnInf") (group roles.reasonGroup (text "Rsn") (field roles.reason (text "Cd") (reasonOf message) nothing) nothing)
     (group roles.originalGroup (text "OrgnlGrpInf") (field roles.originalName (text "OrgnlMsgNmId") (nameOf message) nothing)
     nothing)))))
 
--- each message an element of a role and a name
+-- one element for each message, of a role and a name
 unfoldable pub eachOf : ℕ → List ℕ → (List ℕ → Markup) → List (List ℕ) → Markup
 eachOf role name inner [] = nothing
 eachOf role name inner (m ∷ ms) = group role name (inner m) (eachOf role name inner ms)
@@ -104,9 +105,9 @@ unfoldable pub documents : List Bulk → Markup
 documents [] = nothing
 documents (b ∷ bs) = group roles.document (text "Document") (contentOf b) (documents bs)
 
--- with a declaration in front or none
 abbrev pub declaration : List ℕ
 declaration = text "<?xml version=\"1.0\" encoding=\"UTF-8\"?>"
 
+-- with a declaration in front or none
 unfoldable pub documentsOf : Bool → Spelling → List Bulk → List ℕ
 documentsOf declared how bulks = cond declared declaration [] ++ writtenTo how (documents bulks) []
