@@ -153,7 +153,7 @@ module _ (s name : List ℕ) (at : ℕ) (ys : List ℕ) (is : isName name ≡ tr
       let on = next-here s at 60 (name ++ (62 ∷ ys)) e in
       let ends = name-ends s name (at + 1) 62 ys is refl on in
       let behind = skip-here s (at + 1) name (62 ∷ ys) on in
-      start-plain s at (starts-here s name (at + 1) (62 ∷ ys) is on) (rw ends (byte-here s (at + 1 + length name) 62 ys behind)) ∙ (rw ends)
+      sym (start-plain s at (starts-here s name (at + 1) (62 ∷ ys) is on) (at + 1 + length name) (sym ends) (byte-here s (at + 1 + length name) 62 ys behind))
 
   pub euro-start : drop at s ≡ openTo name (text " Ccy=\"EUR\"") ys → startAt s at ≡ Open (at + 1 + length name + 10) (at + 1 + length name + 10 + 1)
   unfolding nameByte nameStart
@@ -162,7 +162,8 @@ module _ (s name : List ℕ) (at : ℕ) (ys : List ℕ) (is : isName name ≡ tr
       let on = next-here s at 60 (name ++ (32 ∷ rest)) e in
       let ends = name-ends s name (at + 1) 32 rest is refl on in
       let behind = skip-here s (at + 1) name (32 ∷ rest) on in
-      start-named s at (starts-here s name (at + 1) (32 ∷ rest) is on) (To (at + 1 + length name + 10)) (rw ends (attributes-end s (at + 1 + length name) ys behind))
+      sym
+      (start-named s at (starts-here s name (at + 1) (32 ∷ rest) is on) (at + 1 + length name) (sym ends) (To (at + 1 + length name + 10)) (attributes-end s (at + 1 + length name) ys behind))
       ∙ sym (closed-open s (at + 1 + length name + 10) (byte s (at + 1 + length name) ys behind 10))
 
 -- ---- end tags
