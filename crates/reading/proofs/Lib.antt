@@ -8,3 +8,4 @@ pub mod Children
 pub mod Documents
 pub mod Fillings
 pub mod Answers
+pub mod Made

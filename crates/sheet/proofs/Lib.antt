@@ -4,4 +4,6 @@ pub mod Computing
 pub mod Fields
 pub mod Headers
 pub mod Laws
+pub mod Parts
 pub mod Taken
+pub mod Written
