@@ -21,3 +21,5 @@ pub mod ShutOut
 pub mod Telling
 pub mod Told
 pub mod Tracked
+pub mod Texts
+pub mod TextRuns

@@ -6,3 +6,5 @@ pub mod Demands
 pub mod Runs
 pub mod Edges
 pub mod Wrong
+pub mod Texts
+pub mod TextRuns

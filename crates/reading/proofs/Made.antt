@@ -1,28 +1,28 @@
 -- What was read: the sheet that the documents mean is whole, holds one bulk for each of them, and stands in the space. Assumes nothing.
-use mathlib.Core.Path.{_≡_, refl, sym, ap, _∙_}
-use mathlib.Core.Bool.{Bool, true, false, cond, _&&_, false≢true}
-use mathlib.Core.List.{List, [], _∷_, _++_, map}
-use Prim.Native.Nat.{ℕ, _+_, _^_, _≤_, _<_}
+use mathlib.Core.Path.{_≡_, refl, ap, _∙_}
+use mathlib.Core.Bool.{Bool, true, false, cond, _&&_}
+use mathlib.Core.List.{List, [], _∷_, map}
+use Prim.Native.Nat.{ℕ, _+_, _≤_}
 use native.Mathlib.Omega.{arith}
 use lib.Dec.{leb, ltb}
 use lib.ListN.{length, take}
 use lib.Seq.{sets, sets-eq, take-at}
 use borrow.Author.Tests.{leb-true, ltb-true, ltb-false}
-use Rattle.sheet.specs.Sheet.{messageWidth, kindsKnown, Bulk}
+use Rattle.sheet.specs.Sheet.{messageWidth, kindsKnown}
 use Rattle.sheet.proofs.Bulks.{MessagesWide, BulksWide}
 use Rattle.sheet.proofs.Headers.{headers}
 use Rattle.sheet.proofs.Written.{EachCounted, Writable}
-use Rattle.records.specs.Records.{headerOf, messageOf}
+use Rattle.records.specs.Records.{messageOf}
 use Rattle.records.proofs.Laws.{header-length, message-length, header-known}
 use Rattle.elements.specs.Forest.{Forest, none, tree}
 use Rattle.elements.specs.Grammar.{Parsed, read, broken, deep}
 use Rattle.elements.specs.Notes.{tooMany}
 use Rattle.elements.specs.Questions.{firstLack, messagesIn}
 use Rattle.reading.specs.Text.{parsed}
-use Rattle.reading.specs.Meaning.{placesIn, bulkIn, bulksIn, sheetIn, countable, allCountable, fitsIn}
-use Rattle.reading.specs.Reading.{numberOf, answered, answerOf, whenMade, written, outcome, outcomeOf, reads}
+use Rattle.reading.specs.Meaning.{placesIn, bulksIn, sheetIn, countable, allCountable, fitsIn}
+use Rattle.reading.specs.Reading.{numberOf, lengthOf, answerOf, whenMade, written, reads}
 use Rattle.reading.specs.declared.Reading.{Reading}
-use Rattle.reading.specs.declared.Reading.the-variants.{Made, Form, Deep, Lack, Short}
+use Rattle.reading.specs.declared.Reading.the-variants.{Made, Lack, Short}
 use Rattle.reading.proofs.Sheets.{both, map-length}
 
 -- ---- the bulks that documents mean can be written
@@ -114,3 +114,18 @@ module _ (s space : List ℕ) where
       let sheet = sheetIn s (made .forest) in
       let room : 0 + length sheet ≤ length space = (let r = made .room in omega arith) in
       ap (take (length sheet)) (made .left ∙ sets-eq sheet space 0 room) ∙ take-at sheet _ (length sheet) refl
+
+  -- and where it is another, the space is as it was
+  kept-by : (p : Parsed) → (numberOf (answerOf s (length space) p) ≡ 0 → ⊥) → (lengthOf (answerOf s (length space) p) ≡ 0) × (written s space p ≡ space)
+  kept-by (read n f) unread = by-test (ltb (firstLack f (length s)) (length s)) (fitsIn s f (length space)) unread
+    where
+      by-test : (t u : Bool) → (numberOf (told f t u) ≡ 0 → ⊥) → (lengthOf (told f t u) ≡ 0) × (whenMade (told f t u) (sets space 0 (sheetIn s f)) space ≡ space)
+      by-test true u unread = (refl, refl)
+      by-test false true unread = absurd (unread refl)
+      by-test false false unread = (refl, refl)
+  kept-by (broken p) unread = (refl, refl)
+  kept-by (deep p) unread = (refl, refl)
+
+  pub untouched : (numberOf (reads s space .answer) ≡ 0 → ⊥) → (lengthOf (reads s space .answer) ≡ 0) × (reads s space .sheet ≡ space)
+  unfolding reads
+  untouched unread = kept-by (parsed s) unread
