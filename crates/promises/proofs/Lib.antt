@@ -23,3 +23,5 @@ pub mod Told
 pub mod Tracked
 pub mod Texts
 pub mod TextRuns
+pub mod Computing
+pub mod ReadersShutOut

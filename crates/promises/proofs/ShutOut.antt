@@ -33,7 +33,7 @@ use Rattle.promises.specs.Wrong.{refusesAll, writesOnRefusal, oneFixedRe
 
 -- ---- bytes, by a test
 
-unfoldable allBytes : List ℕ → Bool
+unfoldable pub allBytes : List ℕ → Bool
 allBytes [] = true
 allBytes (x ∷ xs) = ltb x 256 && allBytes xs
 
@@ -54,7 +54,7 @@ abbrev message : String → List ℕ
 message identifier = paymentBytes identifier "BBBBLV22XXX" 1
 
 -- one bulk of one message
-abbrev one : List ℕ
+abbrev pub one : List ℕ
 one = sheetBytes (bulk "D1" 1 1 (message "T1" ∷ []) ∷ [])
 
 -- another one
@@ -77,10 +77,10 @@ partial = sheetBytes (bulk "D1" 2 2 (message "T1" ∷ message "T1" ∷ []) ∷ [
 abbrev two : List ℕ
 two = sheetBytes (bulk "D1" 1 1 (message "T1" ∷ []) ∷ bulk "D2" 1 2 (message "T2" ∷ []) ∷ [])
 
-abbrev today : Terms
+abbrev pub today : Terms
 today = dated 20260615
 
-abbrev table : List ℕ
+abbrev pub table : List ℕ
 table = tableBytes (row "AAAALV22XXX" ∷ row "BBBBLV22XXX" ∷ [])
 
 abbrev empty : List ℕ
@@ -90,13 +90,13 @@ abbrev zeros : List ℕ
 zeros = positionsBytes (pos 0 ∷ pos 0 ∷ [])
 
 -- enough for each of these sheets
-abbrev space : List ℕ
+abbrev pub space : List ℕ
 space = replicate (reportLength 2 2) 0
 
-abbrev start : State
+abbrev pub start : State
 start = record { register = empty; positions = zeros }
 
-abbrev callOn : List ℕ → Call
+abbrev pub callOn : List ℕ → Call
 callOn sheet = record { terms = today; sheet = sheet; table = table; register = empty; positions = zeros; report = space }
 
 -- the bulk D1 stands in the register
@@ -114,11 +114,11 @@ repeated =
 abbrev file : List ℕ → File
 file sheet = record { sheet = sheet; space = space }
 
-no-cents : Bytes zeros
+pub no-cents : Bytes zeros
 unfolding outcomesCompute allBytes
 no-cents = bytes-by zeros refl
 
-in-bytes : (sheet : List ℕ) → allBytes sheet ≡ true → InBytes (callOn sheet)
+pub in-bytes : (sheet : List ℕ) → allBytes sheet ≡ true → InBytes (callOn sheet)
 unfolding outcomesCompute allBytes
 in-bytes sheet e =
     record {
@@ -144,7 +144,7 @@ repeated-in-bytes =
 abbrev tagOf : List (List ℕ) → ℕ
 tagOf es = numberAt (getD es 0 []) tagPlace 1
 
-zero-is-one : _≡_ {A = ℕ} 0 1 → ⊥
+pub zero-is-one : _≡_ {A = ℕ} 0 1 → ⊥
 zero-is-one e = omega arith
 
 pub shut-out : ShutOut

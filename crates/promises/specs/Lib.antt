@@ -8,3 +8,4 @@ pub mod Edges
 pub mod Wrong
 pub mod Texts
 pub mod TextRuns
+pub mod WrongReaders

@@ -1,0 +1,60 @@
+-- Each wrong reader is shut out by a statement: were the statement true of it, there would be a contradiction on a text of two small
+-- documents, or of none. Assumes nothing.
+use mathlib.Core.Path.{_≡_, refl, sym, ap}
+use mathlib.Core.List.{List, [], _∷_, _++_}
+use Prim.Native.Nat.{ℕ, _-_}
+use Prim.Native.String.{String}
+use native.Mathlib.Omega.{arith}
+use lib.Dec.{lit≤}
+use lib.ListN.{length, getD, replicate}
+use Rattle.wire.specs.Field.{text}
+use Rattle.refusing.specs.Refusals.{Call}
+use Rattle.judging.proofs.Computing.{outcomesCompute}
+use Rattle.promises.specs.Reading.{acceptedOf, acceptedFrom, recordedFrom, withKeys}
+use Rattle.promises.specs.Demands.{BulksTell, MessagesTell}
+use Rattle.promises.specs.Texts.{Reader, sheetLeft, ReadAs, MessagesNamed, DocumentsNamed}
+use Rattle.promises.specs.TextRuns.{Sent, acceptedIn, recordedIn, runTexts}
+use Rattle.promises.specs.WrongReaders.{stopsAtTheFirst, lastDocumentFirst, anotherKind, aByteShort, oneFixedSheet, writesBeforeItRefuses, writesBehindTheSheet, ReadersShutOut}
+use Rattle.promises.proofs.Computing.{readingsCompute}
+use Rattle.promises.proofs.ShutOut.{allBytes, today, table, start, space, one, callOn, no-cents, in-bytes, zero-is-one}
+
+-- a document without payments, by its identifier
+abbrev document : String → List ℕ
+document identifier =
+    text "<Document><FIToFICstmrCdtTrf><GrpHdr><MsgId>"
+    ++ text identifier
+    ++ text "</MsgId><NbOfTxs>0</NbOfTxs><TtlIntrBkSttlmAmt Ccy='EUR'>0</TtlIntrBkSttlmAmt><IntrBkSttlmDt>2026-06-15</IntrBkSttlmDt>"
+    ++ text "<SttlmInf><SttlmMtd>CLRG</SttlmMtd><ClrSys><Prtry>EKS</Prtry></ClrSys></SttlmInf>"
+    ++ text "<InstgAgt><FinInstnId><BICFI>AAAALV22</BICFI></FinInstnId></InstgAgt></GrpHdr></FIToFICstmrCdtTrf></Document>"
+
+abbrev two : List ℕ
+two = document "D1" ++ document "D2"
+
+-- more than their sheet takes
+abbrev room : List ℕ
+room = replicate 160 0
+
+-- the call on what a reader makes of them
+abbrev callBy : Reader → Call
+callBy reader = callOn (sheetLeft (reader two room))
+
+abbrev sent : Sent
+sent = record { text = []; space = room; report = space }
+
+pub readers-shut-out : ReadersShutOut
+unfolding outcomesCompute readingsCompute allBytes acceptedOf acceptedFrom recordedFrom withKeys BulksTell MessagesTell MessagesNamed DocumentsNamed acceptedIn recordedIn runTexts
+readers-shut-out =
+    record {
+      stopsAtTheFirst = λ s. zero-is-one (ap (λ (l : List ℕ). 2 - getD l 3 0) (sym (s two (callBy stopsAtTheFirst .sheet) (record { space = room; was = refl; made = refl }) .bytes)));
+      cutsAfterTheFirst = λ s.
+          zero-is-one (ap (λ (l : List ℕ). getD l 3 0)
+          (s two (callBy stopsAtTheFirst) (record { space = room; was = refl; made = refl }) (in-bytes (callBy stopsAtTheFirst .sheet) refl) refl 1 (lit≤ tt) space space (lit≤ tt) (lit≤ tt) .later));
+      lastDocumentFirst = λ s.
+          zero-is-one (ap (λ (l : List ℕ). getD l 1 0 - 49)
+          (sym (s two (callBy lastDocumentFirst) (record { space = room; was = refl; made = refl }) (in-bytes (callBy lastDocumentFirst .sheet) refl) refl .named .0)));
+      anotherKind = λ s. s two (callBy anotherKind) (record { space = room; was = refl; made = refl }) .kinds refl;
+      aByteShort = λ s. s two (callBy aByteShort) (record { space = room; was = refl; made = refl }) .form refl;
+      oneFixedSheet = (one, λ s. zero-is-one (sym (ap (λ (es : List (List ℕ)). length es - 1) (s today table start (sent ∷ []) no-cents .recorded))));
+      writesBeforeItRefuses = λ s. zero-is-one (sym (ap (λ (l : List ℕ). getD l 0 0) (s [] room .refused (λ e. omega arith) .1)));
+      writesBehindTheSheet = λ s. zero-is-one (sym (ap (λ (l : List ℕ). getD l 0 0) (s two room .behind)));
+    }
