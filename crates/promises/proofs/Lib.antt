@@ -25,3 +25,4 @@ pub mod Texts
 pub mod TextRuns
 pub mod Computing
 pub mod ReadersShutOut
+pub mod ReadMeeting

@@ -1,6 +1,6 @@
 -- Each wrong reader is shut out by a statement: were the statement true of it, there would be a contradiction on a text of two small
 -- documents, or of none. Assumes nothing.
-use mathlib.Core.Path.{_≡_, refl, sym, ap}
+use mathlib.Core.Path.{refl, sym, ap}
 use mathlib.Core.List.{List, [], _∷_, _++_}
 use Prim.Native.Nat.{ℕ, _-_}
 use Prim.Native.String.{String}
@@ -12,7 +12,7 @@ use Rattle.refusing.specs.Refusals.{Call}
 use Rattle.judging.proofs.Computing.{outcomesCompute}
 use Rattle.promises.specs.Reading.{acceptedOf, acceptedFrom, recordedFrom, withKeys}
 use Rattle.promises.specs.Demands.{BulksTell, MessagesTell}
-use Rattle.promises.specs.Texts.{Reader, sheetLeft, ReadAs, MessagesNamed, DocumentsNamed}
+use Rattle.promises.specs.Texts.{Reader, sheetLeft, MessagesNamed, DocumentsNamed}
 use Rattle.promises.specs.TextRuns.{Sent, acceptedIn, recordedIn, runTexts}
 use Rattle.promises.specs.WrongReaders.{stopsAtTheFirst, lastDocumentFirst, anotherKind, aByteShort, oneFixedSheet, writesBeforeItRefuses, writesBehindTheSheet, ReadersShutOut}
 use Rattle.promises.proofs.Computing.{readingsCompute}

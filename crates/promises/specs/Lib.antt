@@ -9,3 +9,4 @@ pub mod Wrong
 pub mod Texts
 pub mod TextRuns
 pub mod WrongReaders
+pub mod ReadCode
