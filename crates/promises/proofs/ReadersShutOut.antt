@@ -12,11 +12,11 @@ use Rattle.refusing.specs.Refusals.{Call}
 use Rattle.judging.proofs.Computing.{outcomesCompute}
 use Rattle.promises.specs.Reading.{acceptedOf, acceptedFrom, recordedFrom, withKeys}
 use Rattle.promises.specs.Demands.{BulksTell, MessagesTell}
-use Rattle.promises.specs.Texts.{Reader, sheetLeft, MessagesNamed, DocumentsNamed}
+use Rattle.promises.specs.Texts.{Reader, sheetLeft, TextInBytes, MessagesNamed, DocumentsNamed}
 use Rattle.promises.specs.TextRuns.{Sent, acceptedIn, recordedIn, runTexts}
 use Rattle.promises.specs.WrongReaders.{stopsAtTheFirst, lastDocumentFirst, anotherKind, aByteShort, oneFixedSheet, writesBeforeItRefuses, writesBehindTheSheet, ReadersShutOut}
 use Rattle.promises.proofs.Computing.{readingsCompute}
-use Rattle.promises.proofs.ShutOut.{allBytes, today, table, start, space, one, callOn, no-cents, in-bytes, zero-is-one}
+use Rattle.promises.proofs.ShutOut.{allBytes, bytes-by, today, table, empty, start, space, one, callOn, no-cents, zero-is-one}
 
 -- a document without payments, by its identifier
 abbrev document : String → List ℕ
@@ -41,6 +41,17 @@ callBy reader = callOn (sheetLeft (reader two room))
 abbrev sent : Sent
 sent = record { text = []; space = room; report = space }
 
+in-bytes : (sheet : List ℕ) → TextInBytes two (callOn sheet)
+unfolding outcomesCompute allBytes
+in-bytes sheet =
+    record {
+      documents = bytes-by two refl;
+      table = bytes-by table refl;
+      register = bytes-by empty refl;
+      positions = no-cents;
+      report = bytes-by space refl;
+    }
+
 pub readers-shut-out : ReadersShutOut
 unfolding outcomesCompute readingsCompute allBytes acceptedOf acceptedFrom recordedFrom withKeys BulksTell MessagesTell MessagesNamed DocumentsNamed acceptedIn recordedIn runTexts
 readers-shut-out =
@@ -48,10 +59,10 @@ readers-shut-out =
       stopsAtTheFirst = λ s. zero-is-one (ap (λ (l : List ℕ). 2 - getD l 3 0) (sym (s two (callBy stopsAtTheFirst .sheet) (record { space = room; was = refl; made = refl }) .bytes)));
       cutsAfterTheFirst = λ s.
           zero-is-one (ap (λ (l : List ℕ). getD l 3 0)
-          (s two (callBy stopsAtTheFirst) (record { space = room; was = refl; made = refl }) (in-bytes (callBy stopsAtTheFirst .sheet) refl) refl 1 (lit≤ tt) space space (lit≤ tt) (lit≤ tt) .later));
+          (s two (callBy stopsAtTheFirst) (record { space = room; was = refl; made = refl }) (in-bytes (callBy stopsAtTheFirst .sheet)) refl 1 (lit≤ tt) space space (lit≤ tt) (lit≤ tt) .later));
       lastDocumentFirst = λ s.
           zero-is-one (ap (λ (l : List ℕ). getD l 1 0 - 49)
-          (sym (s two (callBy lastDocumentFirst) (record { space = room; was = refl; made = refl }) (in-bytes (callBy lastDocumentFirst .sheet) refl) refl .named .0)));
+          (sym (s two (callBy lastDocumentFirst) (record { space = room; was = refl; made = refl }) (in-bytes (callBy lastDocumentFirst .sheet)) refl .named .0)));
       anotherKind = λ s. s two (callBy anotherKind) (record { space = room; was = refl; made = refl }) .kinds refl;
       aByteShort = λ s. s two (callBy aByteShort) (record { space = room; was = refl; made = refl }) .form refl;
       oneFixedSheet = (one, λ s. zero-is-one (sym (ap (λ (es : List (List ℕ)). length es - 1) (s today table start (sent ∷ []) no-cents .recorded))));

@@ -37,7 +37,7 @@ unfoldable pub allBytes : List ℕ → Bool
 allBytes [] = true
 allBytes (x ∷ xs) = ltb x 256 && allBytes xs
 
-bytes-by : (s : List ℕ) → allBytes s ≡ true → Bytes s
+pub bytes-by : (s : List ℕ) → allBytes s ≡ true → Bytes s
 unfolding allBytes
 bytes-by [] e i = lit< tt
 bytes-by (x ∷ xs) e zero = ltb-true x 256 (and-eq-true-iff (ltb x 256) (allBytes xs) .0 e .0)
@@ -83,7 +83,7 @@ today = dated 20260615
 abbrev pub table : List ℕ
 table = tableBytes (row "AAAALV22XXX" ∷ row "BBBBLV22XXX" ∷ [])
 
-abbrev empty : List ℕ
+abbrev pub empty : List ℕ
 empty = registerBytes [] 4
 
 abbrev zeros : List ℕ
@@ -118,7 +118,7 @@ pub no-cents : Bytes zeros
 unfolding outcomesCompute allBytes
 no-cents = bytes-by zeros refl
 
-pub in-bytes : (sheet : List ℕ) → allBytes sheet ≡ true → InBytes (callOn sheet)
+in-bytes : (sheet : List ℕ) → allBytes sheet ≡ true → InBytes (callOn sheet)
 unfolding outcomesCompute allBytes
 in-bytes sheet e =
     record {

@@ -10,7 +10,7 @@ use native.Mathlib.Omega.{arith}
 use lib.ListN.{length, take, drop, length-append, length-map, take-append-drop}
 use lib.Seq.{sets-eq, length-sets, length-take-le, drop-at}
 use borrow.Author.Tests.{eqb-false}
-use Rattle.wire.specs.Field.{part, bytesOf}
+use Rattle.wire.specs.Field.{Bytes, part, bytesOf}
 use Rattle.sheet.specs.Sheet.{countWidth, headerWidth, kindOf, Bulk, bulkCount, bulksOf, firstSection, kindsKnown, whole}
 use Rattle.sheet.specs.Written.{sheetBytes}
 use Rattle.sheet.proofs.Headers.{headers, headers-of}
@@ -27,6 +27,7 @@ use Rattle.reading.specs.Reading as reading
 use Rattle.reading.specs.Reading.{reads}
 use Rattle.reading.specs.declared.Reading.{Reading}
 use Rattle.reading.proofs.Sheets.{map-length}
+use Rattle.reading.proofs.InBytes.{sheet-bytes}
 use Rattle.reading.proofs.Made.{WasMade, was-made, front-left, kinds-known, untouched}
 use Rattle.rules.specs.declared.Terms.{Terms}
 use Rattle.report.specs.Line.{bulkLineWidth, messageLineWidth, firstLine, sectionsPlace, linesAt, afterLines}
@@ -34,10 +35,10 @@ use Rattle.refusing.specs.Refusals.{Call, refusalNumber, holds, refusals, first
 use Rattle.refusing.specs.declared.Refusal.{Refusal}
 use Rattle.refusing.specs.declared.Refusal.the-variants.{Sheet, Kind}
 use Rattle.refusing.proofs.Numbers.{some-number, number-tells}
-use Rattle.promises.specs.Reading.{Judge}
+use Rattle.promises.specs.Reading.{Judge, InBytes}
 use Rattle.promises.specs.Demands.{RefusesAsWritten, EveryLineTells, MessagesTell, BulksTell}
 use Rattle.promises.specs.Cut.{cutPlace, firstPart, secondPart, Enough, PartsMakeTheWhole, CutsAnywhere}
-use Rattle.promises.specs.Texts.{theReader, WasRead, ReadAs, rootsOf, documentsBy, documents, meant, SheetHoldsDocuments, Keeps, KeepsTheSpace, ReadIsWhole, MessagesNamed, DocumentsNamed, EveryDocumentTold, onSheet, firstDocuments, laterDocuments, CutsBetweenDocuments}
+use Rattle.promises.specs.Texts.{theReader, WasRead, ReadAs, TextInBytes, rootsOf, documentsBy, documents, meant, SheetHoldsDocuments, Keeps, KeepsTheSpace, ReadIsWhole, MessagesNamed, DocumentsNamed, EveryDocumentTold, onSheet, firstDocuments, laterDocuments, CutsBetweenDocuments}
 
 -- ---- what was read
 
@@ -78,6 +79,18 @@ module _ (text sheet : List ℕ) (how : ReadAs theReader text sheet) where
 
   pub as-many : bulkCount sheet ≡ length (documents text)
   as-many = holds-meant .count ∙ length-map (documents text) (λ (d : Forest). bulkIn text d)
+
+-- of a text of bytes, the sheet is made of bytes
+lent : (text : List ℕ) (call : Call) → ReadAs theReader text (call .sheet) → TextInBytes text call → InBytes call
+lent text call how bytes =
+    let is = sheet-is text (call .sheet) how ∙ ap (λ (bs : List Bulk). sheetBytes bs) (meant-is text (call .sheet) how) in
+    record {
+      sheet = subst Bytes (sym is) (sheet-bytes text (bytes .documents) (made text (call .sheet) how .forest));
+      table = bytes .table;
+      register = bytes .register;
+      positions = bytes .positions;
+      report = bytes .report;
+    }
 
 -- The sheet that was read holds the documents of the text: one bulk for each, in their order.
 pub sheet-holds-documents : SheetHoldsDocuments theReader
@@ -145,7 +158,7 @@ module _ (terms : Terms) (table report text : List ℕ) where
 -- What a judge tells of every line it tells of the documents.
 pub every-document-told : (judge : Judge) → EveryLineTells judge → EveryDocumentTold theReader judge
 every-document-told judge tells text call how bytes clear =
-    let told = tells call bytes clear in
+    let told = tells call (lent text call how bytes) clear in
     let many = as-many text (call .sheet) how in
     let lines =
     subst (λ (n : ℕ). BulksTell (call .terms) (call .table) (judge call .report) (meant text) (call .register) firstLine (sectionsPlace n)) many
@@ -215,7 +228,7 @@ cuts-between-documents judge cuts text call how bytes clear k h space space' eno
     → PartsMakeTheWhole (judge call) (judge (onSheet call a (call .register) (call .positions) space))
     (judge (onSheet call b (judge (onSheet call a (call .register) (call .positions) space) .register) (judge (onSheet call a (call .register) (call .positions) space) .positions) space'))
     in
-    let parts : Judged (firstPart sheet k) (secondPart sheet k) = λ e e'. cuts call bytes clear k (omega arith) space space' e e' in
+    let parts : Judged (firstPart sheet k) (secondPart sheet k) = λ e e'. cuts call (lent text call how bytes) clear k (omega arith) space space' e e' in
     let there : Judged (firstDocuments text k) (laterDocuments text k) =
     subst (λ (b : List ℕ). Judged (firstDocuments text k) b) later (subst (λ (a : List ℕ). Judged a (secondPart sheet k)) first parts)
     in

@@ -5,6 +5,7 @@ use mathlib.Core.Path.{_≡_}
 use mathlib.Core.Bool.{true}
 use mathlib.Core.List.{List, [], _∷_, map}
 use lib.ListN.{length, take, drop}
+use Rattle.wire.specs.Field.{Bytes}
 use Rattle.sheet.specs.Sheet.{identifierWidth, kindOf, Bulk, bulksOf, whole}
 use Rattle.sheet.specs.Written.{sheetBytes}
 use Rattle.meanings.specs.Meanings.{filled}
@@ -21,7 +22,7 @@ use Rattle.report.specs.Line.{bulkLineWidth, messageLineWidth, identifierIn, fi
 use Rattle.refusing.specs.Refusals.{Call, refusalNumber, refusal}
 use Rattle.refusing.specs.declared.Refusal.the-variants.{Sheet, Kind}
 use Rattle.judging.specs.Outcome.{Outcome}
-use Rattle.promises.specs.Reading.{Judge, InBytes, lineCount, bulkLineFrom, messageLineFrom}
+use Rattle.promises.specs.Reading.{Judge, lineCount, bulkLineFrom, messageLineFrom}
 use Rattle.promises.specs.Demands.{BulksTell}
 use Rattle.promises.specs.Cut.{firstPart, secondPart, Enough, PartsMakeTheWhole}
 
@@ -45,6 +46,14 @@ pub record ReadAs (reader : Reader) (text sheet : List ℕ) : Type 0 where
   pub space : List ℕ
   pub was : WasRead (reader text space)
   pub made : sheetLeft (reader text space) ≡ sheet
+
+-- what is lent are bytes: of the sheet that was read it is enough that its text is
+pub record TextInBytes (text : List ℕ) (call : Call) : Type 0 where
+  pub documents : Bytes text
+  pub table : Bytes (call .table)
+  pub register : Bytes (call .register)
+  pub positions : Bytes (call .positions)
+  pub report : Bytes (call .report)
 
 -- ---- what a text means
 
@@ -128,7 +137,7 @@ pub record DocumentsTold (text : List ℕ) (call : Call) (left : Outcome) : Type
 
 abbrev pub EveryDocumentTold : Reader → Judge → Type 0
 EveryDocumentTold reader judge =
-    (text : List ℕ) (call : Call) → ReadAs reader text (call .sheet) → InBytes call → refusal call ≡ 0 → DocumentsTold text call (judge call)
+    (text : List ℕ) (call : Call) → ReadAs reader text (call .sheet) → TextInBytes text call → refusal call ≡ 0 → DocumentsTold text call (judge call)
 
 -- ---- demand 3, the cut: after any of the documents
 
@@ -155,7 +164,7 @@ pub record CutBetween (judge : Judge) (text : List ℕ) (call : Call) (k : ℕ) 
 
 abbrev pub CutsBetweenDocuments : Reader → Judge → Type 0
 CutsBetweenDocuments reader judge =
-    (text : List ℕ) (call : Call) → ReadAs reader text (call .sheet) → InBytes call → refusal call ≡ 0
+    (text : List ℕ) (call : Call) → ReadAs reader text (call .sheet) → TextInBytes text call → refusal call ≡ 0
     → (k : ℕ) → k ≤ length (documents text)
     → (space space' : List ℕ) → Enough (firstDocuments text k) space → Enough (laterDocuments text k) space'
     → CutBetween judge text call k space space'

@@ -9,3 +9,4 @@ pub mod Documents
 pub mod Fillings
 pub mod Answers
 pub mod Made
+pub mod InBytes
