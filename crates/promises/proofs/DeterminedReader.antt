@@ -110,10 +110,19 @@ module _ {M : Type 1} (𝓤 : URA M) (H : Heap 𝓤) (A : Atoms 𝓤) (mem : Mem
   pub tags·start : Determined 𝓤 H A mem run tags.start.ended tags.start.clauses
   tags·start κs a g r r' ws ws' h h' = (same 𝓤 (results tags.start.ended κs) _ (h .told) (h' .told), refl)
 
+  pub tags·start-from : Determined 𝓤 H A mem run tags.start_from.ended tags.start_from.clauses
+  tags·start-from κs a g r r' ws ws' h h' = (same 𝓤 (results tags.start_from.ended κs) _ (h .told) (h' .told), refl)
+
   pub tags·end : Determined 𝓤 H A mem run tags.end.ended tags.end.clauses
   tags·end κs a g r r' ws ws' h h' = (same 𝓤 (results tags.end.ended κs) _ (h .told) (h' .told), refl)
 
+  pub tags·end-from : Determined 𝓤 H A mem run tags.end_from.ended tags.end_from.clauses
+  tags·end-from κs a g r r' ws ws' h h' = (same 𝓤 (results tags.end_from.ended κs) _ (h .told) (h' .told), refl)
+
   -- ---- prose
+
+  pub prose·straight-end : Determined 𝓤 H A mem run prose.straight_end.ended prose.straight_end.clauses
+  prose·straight-end κs a g r r' ws ws' h h' = (number 𝓤 _ (h .told) (h' .told), refl)
 
   pub prose·section-end : Determined 𝓤 H A mem run prose.section_end.ended prose.section_end.clauses
   prose·section-end κs a g r r' ws ws' h h' = (same 𝓤 (results prose.section_end.ended κs) _ (h .told) (h' .told), refl)
