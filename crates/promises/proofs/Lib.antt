@@ -26,3 +26,4 @@ pub mod TextRuns
 pub mod Computing
 pub mod ReadersShutOut
 pub mod ReadMeeting
+pub mod ReadCases

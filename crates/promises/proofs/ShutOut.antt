@@ -62,7 +62,7 @@ abbrev other : List ℕ
 other = sheetBytes (bulk "D2" 1 1 (message "T1" ∷ []) ∷ [])
 
 -- two bulks, both in order
-abbrev both : List ℕ
+abbrev pub both : List ℕ
 both = sheetBytes (bulk "D1" 1 1 (message "T1" ∷ []) ∷ bulk "D2" 1 1 (message "T2" ∷ []) ∷ [])
 
 -- one bulk with a wrong sum
