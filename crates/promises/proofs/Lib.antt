@@ -27,3 +27,4 @@ pub mod Computing
 pub mod ReadersShutOut
 pub mod ReadMeeting
 pub mod ReadCases
+pub mod Answered

@@ -27,6 +27,7 @@ use Rattle.promises.specs.Code.{AllDemands}
 use Rattle.promises.specs.Texts.{Reader, theReader, sheetLeft}
 use Rattle.promises.specs.ReadCode.{WellRead, OverTexts, ReadEntry, ReadComes, theRead, theReadDoor, ReadContractMeets, readingWell, CodeReads, ReadCodeMeets, ReadDoorCodeMeets}
 use Rattle.promises.proofs.Told.{tell, both, taken}
+use Rattle.promises.proofs.Answered.{answers-as-written}
 use Rattle.promises.proofs.Texts.{sheet-holds-documents, keeps-the-space, read-is-whole, every-document-told, cuts-between-documents}
 use Rattle.promises.proofs.TextRuns.{texts-run-as-promised}
 
@@ -43,6 +44,7 @@ read-outcomes x y p q = λ j i. record {
 well-read : (text space : List ℕ) → WellRead text space (theReader text space)
 well-read text space =
     record {
+      answer = answers-as-written text space;
       keeps = keeps-the-space text space;
       holds = λ was. sheet-holds-documents text (sheetLeft (theReader text space)) (record { space = space; was = was; made = refl });
     }
@@ -54,6 +56,7 @@ as-well {text} {space} {out} e = rw e (well-read text space)
 pub over-texts : (judge : Judge) → AllDemands judge → OverTexts theReader judge
 over-texts judge demands =
     record {
+      answer = answers-as-written;
       sheet = sheet-holds-documents;
       space = keeps-the-space;
       whole = read-is-whole judge (demands .refuses);

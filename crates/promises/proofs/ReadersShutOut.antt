@@ -5,7 +5,7 @@ use mathlib.Core.List.{List, [], _∷_, _++_}
 use Prim.Native.Nat.{ℕ, _-_}
 use Prim.Native.String.{String}
 use native.Mathlib.Omega.{arith}
-use lib.Dec.{lit≤}
+use lib.Dec.{lit≤, lit<}
 use lib.ListN.{length, getD, replicate}
 use Rattle.wire.specs.Field.{text}
 use Rattle.refusing.specs.Refusals.{Call}
@@ -29,6 +29,10 @@ document identifier =
 
 abbrev two : List ℕ
 two = document "D1" ++ document "D2"
+
+-- an element that is no document
+abbrev stranger : List ℕ
+stranger = text "<A/>"
 
 -- more than their sheet takes
 abbrev room : List ℕ
@@ -56,6 +60,8 @@ pub readers-shut-out : ReadersShutOut
 unfolding outcomesCompute readingsCompute allBytes acceptedOf acceptedFrom recordedFrom withKeys BulksTell MessagesTell MessagesNamed DocumentsNamed acceptedIn recordedIn runTexts
 readers-shut-out =
     record {
+      refusesAll = λ s. zero-is-one (ap (λ (n : ℕ). 1 - n) (s two room .made _ _ refl (lit≤ tt) refl .0));
+      asksForSpaceFirst = λ s. zero-is-one (ap (λ (n : ℕ). 24 - n) (s stranger [] .lacking _ _ refl (lit< tt) .0));
       stopsAtTheFirst = λ s. zero-is-one (ap (λ (l : List ℕ). 2 - getD l 3 0) (sym (s two (callBy stopsAtTheFirst .sheet) (record { space = room; was = refl; made = refl }) .bytes)));
       cutsAfterTheFirst = λ s.
           zero-is-one (ap (λ (l : List ℕ). getD l 3 0)

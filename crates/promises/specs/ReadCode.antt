@@ -24,18 +24,20 @@ use Rattle.tynderaxo.proofs as tynderaxo
 use Rattle.promises.specs.Reading.{Judge}
 use Rattle.promises.specs.Determined.{Allows}
 use Rattle.promises.specs.Code.{AllDemands}
-use Rattle.promises.specs.Texts.{Reader, WasRead, sheetLeft, HoldsDocuments, SheetHoldsDocuments, Keeps, KeepsTheSpace, ReadIsWhole, EveryDocumentTold, CutsBetweenDocuments}
+use Rattle.promises.specs.Texts.{Reader, WasRead, sheetLeft, AnswersRight, AnswersAsWritten, HoldsDocuments, SheetHoldsDocuments, Keeps, KeepsTheSpace, ReadIsWhole, EveryDocumentTold, CutsBetweenDocuments}
 use Rattle.promises.specs.TextRuns.{TextsRunAsPromised}
 
 -- ---- what is asked
 
 -- of one reading
 pub record WellRead (text space : List ℕ) (left : ReadOutcome) : Type 0 where
+  pub answer : AnswersRight text space left
   pub keeps : Keeps space left
   pub holds : WasRead left → HoldsDocuments text (sheetLeft left)
 
 -- of a reader, beside a judge
 pub record OverTexts (reader : Reader) (judge : Judge) : Type 0 where
+  pub answer : AnswersAsWritten reader
   pub sheet : SheetHoldsDocuments reader
   pub space : KeepsTheSpace reader
   pub whole : ReadIsWhole reader judge

@@ -1,8 +1,8 @@
 -- What holds of a reader, and of a reader and a judge together: the demands read over texts of documents. The statements speak of any
 -- reader and any judge. Assumes nothing.
-use Prim.Native.Nat.{ℕ, _+_, _≤_}
+use Prim.Native.Nat.{ℕ, _+_, _≤_, _<_}
 use mathlib.Core.Path.{_≡_}
-use mathlib.Core.Bool.{true}
+use mathlib.Core.Bool.{true, false}
 use mathlib.Core.List.{List, [], _∷_, map}
 use lib.ListN.{length, take, drop}
 use Rattle.wire.specs.Field.{Bytes}
@@ -13,10 +13,13 @@ use Rattle.paths.specs.Roles as roles
 use Rattle.records.specs.Records as records
 use Rattle.elements.specs.Forest.{Forest, none, tree}
 use Rattle.elements.specs.Grammar.{Parsed, read, broken, deep}
-use Rattle.elements.specs.Questions.{messagesIn}
+use Rattle.elements.specs.Questions.{firstLack, messagesIn}
 use Rattle.reading.specs.Text.{parsed}
-use Rattle.reading.specs.Meaning.{placesIn, bulkIn}
+use Rattle.reading.specs.Meaning.{placesIn, bulkIn, sheetIn, fitsIn}
+use Rattle.reading.specs.Reading as reading
 use Rattle.reading.specs.Reading.{reads}
+use Rattle.reading.specs.declared.Reading.{Reading}
+use Rattle.reading.specs.declared.Reading.the-variants.{Made, Form, Deep, Lack, Short}
 use Rattle.tynderaxo.specs.Doors.{ReadOutcome, inNumbers}
 use Rattle.report.specs.Line.{bulkLineWidth, messageLineWidth, identifierIn, firstLine, sectionsPlace, linesAt, afterLines}
 use Rattle.refusing.specs.Refusals.{Call, refusalNumber, refusal}
@@ -77,6 +80,27 @@ meant text = map (λ (d : Forest). bulkIn text d) (documents text)
 -- what the element that plays a role says there
 abbrev pub says : List ℕ → Forest → ℕ → List ℕ
 says text d role = records.saidOf text (placesIn d) role
+
+-- ---- the answer is the right one
+
+-- number, length and place of an answer
+abbrev pub Says : ReadOutcome → Reading → Type 0
+Says left answer = (left .number ≡ reading.numberOf answer) × (left .length ≡ reading.lengthOf answer) × (left .at ≡ reading.whereOf answer)
+
+pub record AnswersRight (text space : List ℕ) (left : ReadOutcome) : Type 0 where
+  -- a text that is not of the form, or goes too deep, whichever is met first
+  pub formless : (p : ℕ) → parsed text ≡ broken p → Says left (Form p)
+  pub tooDeep : (p : ℕ) → parsed text ≡ deep p → Says left (Deep p)
+  -- of the form, and some element lacks something: the first
+  pub lacking : (n : ℕ) (f : Forest) → parsed text ≡ read n f → firstLack f (length text) < length text → Says left (Lack (firstLack f (length text)))
+  -- none does: the sheet that the documents mean is made where it fits, and only there
+  pub tooShort : (n : ℕ) (f : Forest) → parsed text ≡ read n f → length text ≤ firstLack f (length text)
+      → fitsIn text f (length space) ≡ false → Says left Short
+  pub made : (n : ℕ) (f : Forest) → parsed text ≡ read n f → length text ≤ firstLack f (length text)
+      → fitsIn text f (length space) ≡ true → Says left (Made (length (sheetIn text f)))
+
+abbrev pub AnswersAsWritten : Reader → Type 0
+AnswersAsWritten reader = (text space : List ℕ) → AnswersRight text space (reader text space)
 
 -- ---- the sheet is what the documents mean
 

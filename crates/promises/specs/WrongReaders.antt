@@ -4,12 +4,12 @@ use mathlib.Core.Bool.{cond}
 use mathlib.Core.List.{List, [], _∷_, reverse}
 use lib.ListN.{length, take}
 use lib.Seq.{sets}
-use lib.Dec.{eqb}
+use lib.Dec.{eqb, ltb}
 use Rattle.sheet.specs.Sheet.{countWidth, Bulk}
 use Rattle.sheet.specs.Written.{sheetBytes}
 use Rattle.judging.specs.Outcome.{outcome}
 use Rattle.tynderaxo.specs.Doors.{ReadOutcome}
-use Rattle.promises.specs.Texts.{Reader, theReader, meant, SheetHoldsDocuments, KeepsTheSpace, ReadIsWhole, EveryDocumentTold, CutsBetweenDocuments}
+use Rattle.promises.specs.Texts.{Reader, theReader, meant, AnswersAsWritten, SheetHoldsDocuments, KeepsTheSpace, ReadIsWhole, EveryDocumentTold, CutsBetweenDocuments}
 use Rattle.promises.specs.TextRuns.{TextsRunAsPromised}
 
 -- another sheet, and its length, put in place of what was left
@@ -24,6 +24,15 @@ whereRead change text space = cond (eqb (theReader text space .number) 0) (chang
 abbrev pub otherBulks : (List Bulk → List Bulk) → Reader
 otherBulks change text space =
     whereRead (λ left. withSheet left (length (sheetBytes (change (meant text)))) (sets space 0 (sheetBytes (change (meant text))))) text space
+
+-- ---- of the answer
+
+abbrev pub refusesAll : Reader
+refusesAll text space = record { number = 21; length = 0; at = 0; sheet = space }
+
+-- a space that holds no sheet is told before the text is looked at
+abbrev pub asksForSpaceFirst : Reader
+asksForSpaceFirst text space = cond (ltb (length space) countWidth) (record { number = 24; length = 0; at = 0; sheet = space }) (theReader text space)
 
 -- ---- of the sheet
 
@@ -56,6 +65,8 @@ writesBehindTheSheet = whereRead (λ left. withSheet left (left .length) (sets (
 -- ---- which statement refuses which
 
 pub record ReadersShutOut : Type 0 where
+  pub refusesAll : AnswersAsWritten refusesAll → ⊥
+  pub asksForSpaceFirst : AnswersAsWritten asksForSpaceFirst → ⊥
   pub cutsAfterTheFirst : CutsBetweenDocuments stopsAtTheFirst outcome → ⊥
   pub stopsAtTheFirst : SheetHoldsDocuments stopsAtTheFirst → ⊥
   pub lastDocumentFirst : EveryDocumentTold lastDocumentFirst outcome → ⊥
