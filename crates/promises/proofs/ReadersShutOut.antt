@@ -1,5 +1,5 @@
--- Each wrong reader is shut out by a statement: were the statement true of it, there would be a contradiction on a text of two small
--- documents, or of none. Assumes nothing.
+-- Each wrong reader is shut out by a statement: were the statement true of it, there would be a contradiction on a text of one or two
+-- small documents, or of none. Assumes nothing.
 use mathlib.Core.Path.{refl, sym, ap}
 use mathlib.Core.List.{List, [], _∷_, _++_}
 use Prim.Native.Nat.{ℕ, _-_}
@@ -27,6 +27,9 @@ document identifier =
     ++ text "<SttlmInf><SttlmMtd>CLRG</SttlmMtd><ClrSys><Prtry>EKS</Prtry></ClrSys></SttlmInf>"
     ++ text "<InstgAgt><FinInstnId><BICFI>AAAALV22</BICFI></FinInstnId></InstgAgt></GrpHdr></FIToFICstmrCdtTrf></Document>"
 
+abbrev single : List ℕ
+single = document "D1"
+
 abbrev two : List ℕ
 two = document "D1" ++ document "D2"
 
@@ -38,9 +41,9 @@ stranger = text "<A/>"
 abbrev room : List ℕ
 room = replicate 160 0
 
--- the call on what a reader makes of them
-abbrev callBy : Reader → Call
-callBy reader = callOn (sheetLeft (reader two room))
+-- the call on what a reader makes of a text
+abbrev callBy : Reader → List ℕ → Call
+callBy reader documents = callOn (sheetLeft (reader documents room))
 
 abbrev sent : Sent
 sent = record { text = []; space = room; report = space }
@@ -60,18 +63,18 @@ pub readers-shut-out : ReadersShutOut
 unfolding outcomesCompute readingsCompute allBytes acceptedOf acceptedFrom recordedFrom withKeys BulksTell MessagesTell MessagesNamed DocumentsNamed acceptedIn recordedIn runTexts
 readers-shut-out =
     record {
-      refusesAll = λ s. zero-is-one (ap (λ (n : ℕ). 1 - n) (s two room .made _ _ refl (lit≤ tt) refl .0));
+      refusesAll = λ s. zero-is-one (ap (λ (n : ℕ). 1 - n) (s single room .made _ _ refl (lit≤ tt) refl .0));
       asksForSpaceFirst = λ s. zero-is-one (ap (λ (n : ℕ). 24 - n) (s stranger [] .lacking _ _ refl (lit< tt) .0));
-      stopsAtTheFirst = λ s. zero-is-one (ap (λ (l : List ℕ). 2 - getD l 3 0) (sym (s two (callBy stopsAtTheFirst .sheet) (record { space = room; was = refl; made = refl }) .bytes)));
+      stopsAtTheFirst = λ s. zero-is-one (ap (λ (l : List ℕ). 2 - getD l 3 0) (sym (s two (callBy stopsAtTheFirst two .sheet) (record { space = room; was = refl; made = refl }) .bytes)));
       cutsAfterTheFirst = λ s.
           zero-is-one (ap (λ (l : List ℕ). getD l 3 0)
-          (s two (callBy stopsAtTheFirst) (record { space = room; was = refl; made = refl }) (in-bytes (callBy stopsAtTheFirst .sheet)) refl 1 (lit≤ tt) space space (lit≤ tt) (lit≤ tt) .later));
+          (s two (callBy stopsAtTheFirst two) (record { space = room; was = refl; made = refl }) (in-bytes (callBy stopsAtTheFirst two .sheet)) refl 1 (lit≤ tt) space space (lit≤ tt) (lit≤ tt) .later));
       lastDocumentFirst = λ s.
           zero-is-one (ap (λ (l : List ℕ). getD l 1 0 - 49)
-          (sym (s two (callBy lastDocumentFirst) (record { space = room; was = refl; made = refl }) (in-bytes (callBy lastDocumentFirst .sheet)) refl .named .0)));
-      anotherKind = λ s. s two (callBy anotherKind) (record { space = room; was = refl; made = refl }) .kinds refl;
-      aByteShort = λ s. s two (callBy aByteShort) (record { space = room; was = refl; made = refl }) .form refl;
+          (sym (s two (callBy lastDocumentFirst two) (record { space = room; was = refl; made = refl }) (in-bytes (callBy lastDocumentFirst two .sheet)) refl .named .0)));
+      anotherKind = λ s. s single (callBy anotherKind single) (record { space = room; was = refl; made = refl }) .kinds refl;
+      aByteShort = λ s. s single (callBy aByteShort single) (record { space = room; was = refl; made = refl }) .form refl;
       oneFixedSheet = (one, λ s. zero-is-one (sym (ap (λ (es : List (List ℕ)). length es - 1) (s today table start (sent ∷ []) no-cents .recorded))));
       writesBeforeItRefuses = λ s. zero-is-one (sym (ap (λ (l : List ℕ). getD l 0 0) (s [] room .refused (λ e. omega arith) .1)));
-      writesBehindTheSheet = λ s. zero-is-one (sym (ap (λ (l : List ℕ). getD l 0 0) (s two room .behind)));
+      writesBehindTheSheet = λ s. zero-is-one (sym (ap (λ (l : List ℕ). getD l 0 0) (s single room .behind)));
     }
