@@ -208,9 +208,6 @@ module _ {M : Type 1} (𝓤 : URA M) (H : Heap 𝓤) (A : Atoms 𝓤) (mem : Mem
 
   -- ---- elements
 
-  pub elements·note-at : Determined 𝓤 H A mem run elements.note_at.ended elements.note_at.clauses
-  elements·note-at κs a g r r' ws ws' h h' = (number 𝓤 _ (h .told) (h' .told), refl)
-
   pub elements·read-element : Determined 𝓤 H A mem run elements.read_element.ended elements.read_element.clauses
   elements·read-element κs a g r r' ws ws' h h' = (
     same 𝓤 (results elements.read_element.ended κs) _ (first 𝓤 _ _ (h .told)) (first 𝓤 _ _ (h' .told)),
