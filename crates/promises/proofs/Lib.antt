@@ -21,10 +21,3 @@ pub mod ShutOut
 pub mod Telling
 pub mod Told
 pub mod Tracked
-pub mod Texts
-pub mod TextRuns
-pub mod Computing
-pub mod ReadersShutOut
-pub mod ReadMeeting
-pub mod ReadCases
-pub mod Answered

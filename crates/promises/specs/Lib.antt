@@ -6,7 +6,3 @@ pub mod Demands
 pub mod Runs
 pub mod Edges
 pub mod Wrong
-pub mod Texts
-pub mod TextRuns
-pub mod WrongReaders
-pub mod ReadCode

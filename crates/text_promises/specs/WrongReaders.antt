@@ -9,8 +9,8 @@ use Rattle.sheet.specs.Sheet.{countWidth, Bulk}
 use Rattle.sheet.specs.Written.{sheetBytes}
 use Rattle.judging.specs.Outcome.{outcome}
 use Rattle.tynderaxo.specs.Doors.{ReadOutcome}
-use Rattle.promises.specs.Texts.{Reader, theReader, meant, AnswersAsWritten, SheetHoldsDocuments, KeepsTheSpace, ReadIsWhole, EveryDocumentTold, CutsBetweenDocuments}
-use Rattle.promises.specs.TextRuns.{TextsRunAsPromised}
+use Rattle.text_promises.specs.Texts.{Reader, theReader, meant, AnswersAsWritten, SheetHoldsDocuments, KeepsTheSpace, ReadIsWhole, EveryDocumentTold, CutsBetweenDocuments}
+use Rattle.text_promises.specs.TextRuns.{TextsRunAsPromised}
 
 -- another sheet, and its length, put in place of what was left
 abbrev pub withSheet : ReadOutcome → ℕ → List ℕ → ReadOutcome

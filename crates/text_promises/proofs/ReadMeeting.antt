@@ -22,14 +22,14 @@ use denote.Triple.Spec.{Meets}
 use Rattle.tynderaxo.specs.Doors.{ReadOutcome, inNumbers}
 use Rattle.reading.proofs as reading
 use Rattle.tynderaxo.proofs as tynderaxo
 use Rattle.promises.specs.Reading.{Judge}
 use Rattle.promises.specs.Code.{AllDemands}
-use Rattle.promises.specs.Texts.{Reader, theReader, sheetLeft}
-use Rattle.promises.specs.ReadCode.{WellRead, OverTexts, ReadEntry, ReadComes, theRead, theReadDoor, ReadContractMeets, readingWell, CodeReads, ReadCodeMeets, ReadDoorCodeMeets}
+use Rattle.text_promises.specs.Texts.{Reader, theReader, sheetLeft}
+use Rattle.text_promises.specs.ReadCode.{WellRead, OverTexts, ReadEntry, ReadComes, theRead, theReadDoor, ReadContractMeets, readingWell, CodeReads, ReadCodeMeets, ReadDoorCodeMeets}
 use Rattle.promises.proofs.Told.{tell, both, taken}
-use Rattle.promises.proofs.Answered.{answers-as-written}
-use Rattle.promises.proofs.Texts.{sheet-holds-documents, keeps-the-space, read-is-whole, every-document-told, cuts-between-documents}
-use Rattle.promises.proofs.TextRuns.{texts-run-as-promised}
+use Rattle.text_promises.proofs.Answered.{answers-as-written}
+use Rattle.text_promises.proofs.Texts.{sheet-holds-documents, keeps-the-space, read-is-whole, every-document-told, cuts-between-documents}
+use Rattle.text_promises.proofs.TextRuns.{texts-run-as-promised}
 
 -- what is left by a reading is three numbers and its bytes
 read-outcomes : IsSet ReadOutcome

@@ -35,10 +35,10 @@ use Rattle.refusing.specs.Refusals.{Call, refusalNumber, holds, refusals, first
 use Rattle.refusing.specs.declared.Refusal.{Refusal}
 use Rattle.refusing.specs.declared.Refusal.the-variants.{Sheet, Kind}
 use Rattle.refusing.proofs.Numbers.{some-number, number-tells}
 use Rattle.promises.specs.Reading.{Judge, InBytes}
 use Rattle.promises.specs.Demands.{RefusesAsWritten, EveryLineTells, MessagesTell, BulksTell}
 use Rattle.promises.specs.Cut.{cutPlace, firstPart, secondPart, Enough, PartsMakeTheWhole, CutsAnywhere}
-use Rattle.promises.specs.Texts.{theReader, WasRead, ReadAs, TextInBytes, rootsOf, documentsBy, documents, meant, SheetHoldsDocuments, Keeps, KeepsTheSpace, ReadIsWhole, MessagesNamed, DocumentsNamed, EveryDocumentTold, onSheet, firstDocuments, laterDocuments, CutsBetweenDocuments}
+use Rattle.text_promises.specs.Texts.{theReader, WasRead, ReadAs, TextInBytes, rootsOf, documentsBy, documents, meant, SheetHoldsDocuments, Keeps, KeepsTheSpace, ReadIsWhole, MessagesNamed, DocumentsNamed, EveryDocumentTold, onSheet, firstDocuments, laterDocuments, CutsBetweenDocuments}
 
 -- ---- what was read
 

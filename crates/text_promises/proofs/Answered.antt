@@ -13,7 +13,7 @@ use Rattle.reading.specs.Meaning.{sheetIn, fitsIn}
 use Rattle.reading.specs.Reading.{answerOf, reads, numberOf, lengthOf, whereOf}
 use Rattle.reading.specs.declared.Reading.{Reading}
 use Rattle.reading.specs.declared.Reading.the-variants.{Made, Form, Deep, Lack, Short}
-use Rattle.promises.specs.Texts.{theReader, Says, AnswersAsWritten}
+use Rattle.text_promises.specs.Texts.{theReader, Says, AnswersAsWritten}
 
 module _ (text space : List ℕ) where
   -- what is said goes by the answer

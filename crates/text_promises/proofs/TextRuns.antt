@@ -11,11 +11,11 @@ use Rattle.report.specs.Line.{sectionsPlace}
 use Rattle.messages.specs.Messages.{State}
 use Rattle.reading.specs.Reading.{numberOf, reads}
 use Rattle.judging.specs.Outcome.{Outcome}
 use Rattle.promises.specs.Reading.{Judge, Payment, acceptedFrom, accepted, recordedFrom, recorded}
 use Rattle.promises.specs.Runs.{File, Ran, callOn, stateAfter, run, RunHolds, RunsAsPromised}
-use Rattle.promises.specs.Texts.{theReader, ReadAs}
-use Rattle.promises.specs.TextRuns.{Sent, acceptedIn, recordedIn, fileOf, runTexts, TextsRunAsPromised}
-use Rattle.promises.proofs.Texts.{holds-meant}
+use Rattle.text_promises.specs.Texts.{theReader, ReadAs}
+use Rattle.text_promises.specs.TextRuns.{Sent, acceptedIn, recordedIn, fileOf, runTexts, TextsRunAsPromised}
+use Rattle.text_promises.proofs.Texts.{holds-meant}
 
 -- what a report tells of the documents it tells of the sheet
 module _ (text sheet : List ℕ) (how : ReadAs theReader text sheet) (left : Outcome) where

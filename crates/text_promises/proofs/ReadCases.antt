@@ -7,9 +7,9 @@ use lib.ListN.{replicate}
 use Rattle.wire.specs.Field.{text}
 use Rattle.refusing.specs.Refusals.{refusal}
 use Rattle.judging.proofs.Computing.{outcomesCompute}
-use Rattle.promises.specs.Texts.{theReader, ReadAs}
-use Rattle.promises.proofs.Computing.{readingsCompute}
+use Rattle.text_promises.specs.Texts.{theReader, ReadAs}
+use Rattle.text_promises.proofs.Computing.{readingsCompute}
 use Rattle.promises.proofs.ShutOut.{both, callOn}
 
 -- after a declaration, without a space that is not needed
 abbrev first : List ℕ

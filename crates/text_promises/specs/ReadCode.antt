@@ -21,11 +21,11 @@ use Rattle.reading.specs.Reading.{outcome}
 use Rattle.tynderaxo.specs.Doors.{ReadOutcome, readOutcome, inNumbers}
 use Rattle.reading.proofs as reading
 use Rattle.tynderaxo.proofs as tynderaxo
 use Rattle.promises.specs.Reading.{Judge}
 use Rattle.promises.specs.Determined.{Allows}
 use Rattle.promises.specs.Code.{AllDemands}
-use Rattle.promises.specs.Texts.{Reader, WasRead, sheetLeft, AnswersRight, AnswersAsWritten, HoldsDocuments, SheetHoldsDocuments, Keeps, KeepsTheSpace, ReadIsWhole, EveryDocumentTold, CutsBetweenDocuments}
-use Rattle.promises.specs.TextRuns.{TextsRunAsPromised}
+use Rattle.text_promises.specs.Texts.{Reader, WasRead, sheetLeft, AnswersRight, AnswersAsWritten, HoldsDocuments, SheetHoldsDocuments, Keeps, KeepsTheSpace, ReadIsWhole, EveryDocumentTold, CutsBetweenDocuments}
+use Rattle.text_promises.specs.TextRuns.{TextsRunAsPromised}
 
 -- ---- what is asked
 

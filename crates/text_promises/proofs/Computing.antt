@@ -18,7 +18,7 @@ use Rattle.elements.specs.Questions.{firstLack, placeIn, messagesIn}
 use Rattle.reading.specs.Text.{rootsBy, rootsAt, parsed}
 use Rattle.reading.specs.Meaning.{bulksIn, allCountable, fitsIn}
 use Rattle.reading.specs.Reading.{reads}
-use Rattle.promises.specs.Texts.{rootsOf, documents}
+use Rattle.text_promises.specs.Texts.{rootsOf, documents}
 
 unfoldable pub readingsCompute : Unit {0}
 unfolding same sheetsCompute run matches walkBy walk widthOf widthAt isCharacter encoded numberedAt referenceAt isSpace nameStart nameByte valueTurn valueAt attributeAt someBy someAttribute attributeTurn attributesAt letterAt spells inEuros startAt endAt sectionTurn sectionAt textTurn textAt pieceAt saidBy saidAt anyCase settingAt declarationAt prolog among childRole rootRole allMet lacks fieldsCompute headerOf messageOf beside countOf filledField fieldAt itemsBy contentBy elementAt firstLack placeIn messagesIn rootsBy rootsAt parsed bulksIn allCountable fitsIn reads rootsOf documents

@@ -10,9 +10,9 @@ use Rattle.rules.specs.declared.Terms.{Terms}
 use Rattle.report.specs.Line.{sectionsPlace}
 use Rattle.messages.specs.Messages.{State}
 use Rattle.judging.specs.Outcome.{Outcome}
 use Rattle.promises.specs.Reading.{Judge, Payment, acceptedFrom, recordedFrom}
 use Rattle.promises.specs.Runs.{File, Ran, callOn, stateAfter, RunHolds}
-use Rattle.promises.specs.Texts.{Reader, sheetLeft, meant}
+use Rattle.text_promises.specs.Texts.{Reader, sheetLeft, meant}
 
 -- a text, the space that is lent for its sheet, and that for its report
 pub record Sent : Type 0 where

@@ -10,13 +10,13 @@ use lib.ListN.{length, getD, replicate}
 use Rattle.wire.specs.Field.{text}
 use Rattle.refusing.specs.Refusals.{Call}
 use Rattle.judging.proofs.Computing.{outcomesCompute}
 use Rattle.promises.specs.Reading.{acceptedOf, acceptedFrom, recordedFrom, withKeys}
 use Rattle.promises.specs.Demands.{BulksTell, MessagesTell}
-use Rattle.promises.specs.Texts.{Reader, sheetLeft, TextInBytes, MessagesNamed, DocumentsNamed}
-use Rattle.promises.specs.TextRuns.{Sent, acceptedIn, recordedIn, runTexts}
-use Rattle.promises.specs.WrongReaders.{stopsAtTheFirst, lastDocumentFirst, anotherKind, aByteShort, oneFixedSheet, writesBeforeItRefuses, writesBehindTheSheet, ReadersShutOut}
-use Rattle.promises.proofs.Computing.{readingsCompute}
+use Rattle.text_promises.specs.Texts.{Reader, sheetLeft, TextInBytes, MessagesNamed, DocumentsNamed}
+use Rattle.text_promises.specs.TextRuns.{Sent, acceptedIn, recordedIn, runTexts}
+use Rattle.text_promises.specs.WrongReaders.{stopsAtTheFirst, lastDocumentFirst, anotherKind, aByteShort, oneFixedSheet, writesBeforeItRefuses, writesBehindTheSheet, ReadersShutOut}
+use Rattle.text_promises.proofs.Computing.{readingsCompute}
 use Rattle.promises.proofs.ShutOut.{allBytes, bytes-by, today, table, empty, start, space, one, callOn, no-cents, zero-is-one}
 
 -- a document without payments, by its identifier
 abbrev document : String → List ℕ

@@ -1,0 +1,7 @@
+pub mod Texts
+pub mod TextRuns
+pub mod Answered
+pub mod Computing
+pub mod ReadersShutOut
+pub mod ReadMeeting
+pub mod ReadCases

@@ -1,0 +1,4 @@
+pub mod Texts
+pub mod TextRuns
+pub mod ReadCode
+pub mod WrongReaders
