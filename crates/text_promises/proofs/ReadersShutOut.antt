@@ -37,6 +37,10 @@ two = document "D1" ++ document "D2"
 abbrev stranger : List ℕ
 stranger = text "<A/>"
 
+-- such an element, and behind it the beginning of something
+abbrev unfinished : List ℕ
+unfinished = text "<A/><"
+
 -- more than their sheet takes
 abbrev room : List ℕ
 room = replicate 160 0
@@ -65,6 +69,7 @@ readers-shut-out =
     record {
       refusesAll = λ s. zero-is-one (ap (λ (n : ℕ). 1 - n) (s single room .made _ _ refl (lit≤ tt) refl .0));
       asksForSpaceFirst = λ s. zero-is-one (ap (λ (n : ℕ). 24 - n) (s stranger [] .lacking _ _ refl (lit< tt) .0));
+      tellsLackFirst = λ s. zero-is-one (ap (λ (n : ℕ). 22 - n) (s unfinished [] .formless _ refl .0));
       stopsAtTheFirst = λ s. zero-is-one (ap (λ (l : List ℕ). 2 - getD l 3 0) (sym (s two (callBy stopsAtTheFirst two .sheet) (record { space = room; was = refl; made = refl }) .bytes)));
       cutsAfterTheFirst = λ s.
           zero-is-one (ap (λ (l : List ℕ). getD l 3 0)

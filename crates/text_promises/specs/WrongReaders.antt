@@ -7,6 +7,9 @@ use lib.Seq.{sets}
 use lib.Dec.{eqb, ltb}
 use Rattle.sheet.specs.Sheet.{countWidth, Bulk}
 use Rattle.sheet.specs.Written.{sheetBytes}
+use Rattle.elements.specs.Grammar.{Parsed, read, broken, deep}
+use Rattle.elements.specs.Questions.{firstLack}
+use Rattle.reading.specs.Text.{documentAt}
 use Rattle.judging.specs.Outcome.{outcome}
 use Rattle.tynderaxo.specs.Doors.{ReadOutcome}
 use Rattle.text_promises.specs.Texts.{Reader, theReader, meant, AnswersAsWritten, SheetHoldsDocuments, KeepsTheSpace, ReadIsWhole, EveryDocumentTold, CutsBetweenDocuments}
@@ -33,6 +36,18 @@ refusesAll text space = record { number = 21; length = 0; at = 0; sheet = space 
 -- a space that holds no sheet is told before the text is looked at
 abbrev pub asksForSpaceFirst : Reader
 asksForSpaceFirst text space = cond (ltb (length space) countWidth) (record { number = 24; length = 0; at = 0; sheet = space }) (theReader text space)
+
+-- what the first document lacks is told before the rest of the text is looked at
+abbrev pub lackIn : List ℕ → Parsed → ℕ
+lackIn text (read n f) = firstLack f (length text)
+lackIn text (broken p) = length text
+lackIn text (deep p) = length text
+
+abbrev pub tellsLackFirst : Reader
+tellsLackFirst text space =
+    cond (ltb (lackIn text (documentAt text 0)) (length text))
+    (record { number = 23; length = 0; at = lackIn text (documentAt text 0); sheet = space })
+    (theReader text space)
 
 -- ---- of the sheet
 
@@ -67,6 +82,7 @@ writesBehindTheSheet = whereRead (λ left. withSheet left (left .length) (sets (
 pub record ReadersShutOut : Type 0 where
   pub refusesAll : AnswersAsWritten refusesAll → ⊥
   pub asksForSpaceFirst : AnswersAsWritten asksForSpaceFirst → ⊥
+  pub tellsLackFirst : AnswersAsWritten tellsLackFirst → ⊥
   pub cutsAfterTheFirst : CutsBetweenDocuments stopsAtTheFirst outcome → ⊥
   pub stopsAtTheFirst : SheetHoldsDocuments stopsAtTheFirst → ⊥
   pub lastDocumentFirst : EveryDocumentTold lastDocumentFirst outcome → ⊥
