@@ -87,7 +87,8 @@ typedef struct {
 
 /*
  * Reads a text of one document or several, each of them one bulk, into a sheet for tynderaxo_judge. Bytes of sheet after its
- * length stay as they were. It is never longer than 4 + 69 bytes a bulk + 81 bytes a message.
+ * length stay as they were. It is never longer than 4 + 69 bytes a bulk + 81 bytes a message. It takes some six kilobytes of stack,
+ * however long the text is and however deep its elements stand.
  */
 tynderaxo_read_answer tynderaxo_read(const uint8_t *document, size_t document_len, uint8_t *sheet, size_t sheet_len);
 
