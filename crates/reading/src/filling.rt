@@ -37,7 +37,7 @@ fn after(s: &[u8], j: usize, depth: usize, role: usize, notes: &mut [usize]) -> 
     place_of(elements::read_element(s, j, depth, role, notes))
 }
 
-// Forgets the fields of a message, so that none of them shows in the next one.
+// Forgets the fields of a message, so that what is noted of the next one is its own whatever it lacks.
 fn forget(notes: &mut [usize])
     requires { ⌜ length (now notes) ≡ noteCount ⌝ }
     ensures { λ _. ⌜ now (notes .exit) ≡ forgotten (now (notes .entry)) ⌝ }

@@ -70,6 +70,7 @@ readers-shut-out =
       refusesAll = λ s. zero-is-one (ap (λ (n : ℕ). 1 - n) (s single room .made _ _ refl (lit≤ tt) refl .0));
       asksForSpaceFirst = λ s. zero-is-one (ap (λ (n : ℕ). 24 - n) (s stranger [] .lacking _ _ refl (lit< tt) .0));
       tellsLackFirst = λ s. zero-is-one (ap (λ (n : ℕ). 22 - n) (s unfinished [] .formless _ refl .0));
+      anyFixedSheet = λ sheet s. zero-is-one (ap (λ (n : ℕ). n - 20) (s [] [] .formless _ refl .0));
       stopsAtTheFirst = λ s. zero-is-one (ap (λ (l : List ℕ). 2 - getD l 3 0) (sym (s two (callBy stopsAtTheFirst two .sheet) (record { space = room; was = refl; made = refl }) .bytes)));
       cutsAfterTheFirst = λ s.
           zero-is-one (ap (λ (l : List ℕ). getD l 3 0)

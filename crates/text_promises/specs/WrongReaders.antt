@@ -83,12 +83,13 @@ pub record ReadersShutOut : Type 0 where
   pub refusesAll : AnswersAsWritten refusesAll → ⊥
   pub asksForSpaceFirst : AnswersAsWritten asksForSpaceFirst → ⊥
   pub tellsLackFirst : AnswersAsWritten tellsLackFirst → ⊥
+  pub anyFixedSheet : (sheet : List ℕ) → AnswersAsWritten (oneFixedSheet sheet) → ⊥
   pub cutsAfterTheFirst : CutsBetweenDocuments stopsAtTheFirst outcome → ⊥
   pub stopsAtTheFirst : SheetHoldsDocuments stopsAtTheFirst → ⊥
   pub lastDocumentFirst : EveryDocumentTold lastDocumentFirst outcome → ⊥
   pub anotherKind : ReadIsWhole anotherKind outcome → ⊥
   pub aByteShort : ReadIsWhole aByteShort outcome → ⊥
-  -- some sheet, handed out for a text that means no payment
+  -- and one, handed out for a text that means no payment
   pub oneFixedSheet : (sheet : List ℕ) × (TextsRunAsPromised (oneFixedSheet sheet) outcome → ⊥)
   pub writesBeforeItRefuses : KeepsTheSpace writesBeforeItRefuses → ⊥
   pub writesBehindTheSheet : KeepsTheSpace writesBehindTheSheet → ⊥
