@@ -74,7 +74,7 @@ tynderaxo_route tynderaxo_lookup(uint32_t date,
  *   22  an element stands at level 33
  *   23  in an element something needed is missing or stands twice, or a document is no Document
  *   24  the sheet's space is too short
- *      Of 21 and 22 the one that is met first in the text is given, then 23, then 24.
+ *      The text is read from its front, so 21 and 22 go by which of them comes first; 23 is asked of a text that is neither, and 24 last.
  * length: the bytes of sheet written; 0 with any refusal, and then no byte of it has changed.
  * at:     with 21 and 22 the place in the text, from 0, of the byte at which it is met; with 23 that of the first element in which
  *         something is missing or stands twice; else 0.
@@ -87,7 +87,7 @@ typedef struct {
 
 /*
  * Reads a text of one document or several, each of them one bulk, into a sheet for tynderaxo_judge. Bytes of sheet after its
- * length stay as they were. It is never longer than 4 + 69 bytes a bulk + 81 bytes a message. It takes some six kilobytes of stack,
+ * length stay as they were. A sheet has 4 bytes, 69 for each bulk and 81 for each message. It takes some six kilobytes of stack,
  * however long the text is and however deep its elements stand.
  */
 tynderaxo_read_answer tynderaxo_read(const uint8_t *document, size_t document_len, uint8_t *sheet, size_t sheet_len);

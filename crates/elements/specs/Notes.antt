@@ -14,6 +14,7 @@ use Rattle.paths.specs.Roles as roles
 use Rattle.paths.specs.Table.{lacks}
 use Rattle.elements.specs.Forest.{Forest, none, tree, countOf}
 use Rattle.elements.specs.Grammar.{Parsed, read, broken, deep}
+pub use Rattle.elements.specs.Questions.{tooMany}
 use Rattle.elements.specs.declared.Step.{Step}
 use Rattle.elements.specs.declared.Step.the-variants.{Done, Form, Deep}
 
@@ -23,10 +24,6 @@ lackNote = 34
 
 abbrev pub messagesNote : ℕ
 messagesNote = 35
-
--- no sheet counts as many messages
-abbrev pub tooMany : ℕ
-tooMany = 4294967296
 
 -- one more, up to that
 abbrev pub oneMore : ℕ → ℕ

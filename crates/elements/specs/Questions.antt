@@ -22,3 +22,7 @@ placeIn k (tree role place inner rest) p = placeIn k rest (cond (eqb role k) pla
 unfoldable pub messagesIn : Forest → List Forest
 messagesIn none = []
 messagesIn (tree role place inner rest) = messagesIn inner ++ (cond (roles.isMessage role) (tree role place inner none ∷ []) [] ++ messagesIn rest)
+
+-- no sheet counts as many
+abbrev pub tooMany : ℕ
+tooMany = 4294967296

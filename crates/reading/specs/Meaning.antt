@@ -8,8 +8,7 @@ use Rattle.sheet.specs.Sheet.{Bulk}
 use Rattle.sheet.specs.Written.{sheetBytes}
 use Rattle.records.specs.Records.{Places, headerOf, messageOf}
 use Rattle.elements.specs.Forest.{Forest, none, tree}
-use Rattle.elements.specs.Notes.{tooMany}
-use Rattle.elements.specs.Questions.{placeIn, messagesIn}
+use Rattle.elements.specs.Questions.{tooMany, placeIn, messagesIn}
 
 -- ---- a bulk
 

@@ -7,8 +7,7 @@ use lib.ListN.{length}
 use lib.Dec.{leb, ltb}
 use Rattle.elements.specs.Forest.{Forest, none, tree}
 use Rattle.elements.specs.Grammar.{Parsed, read, broken, deep}
-use Rattle.elements.specs.Notes.{tooMany}
-use Rattle.elements.specs.Questions.{firstLack, messagesIn}
+use Rattle.elements.specs.Questions.{tooMany, firstLack, messagesIn}
 use Rattle.reading.specs.Meaning.{countable, allCountable, bulksIn, fitsIn}
 use Rattle.reading.specs.declared.survey.Seen.{Seen}
 use Rattle.reading.specs.declared.survey.Room.{Room}
