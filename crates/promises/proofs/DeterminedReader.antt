@@ -124,9 +124,6 @@ module _ {M : Type 1} (𝓤 : URA M) (H : Heap 𝓤) (A : Atoms 𝓤) (mem : Mem
   pub prose·straight-end : Determined 𝓤 H A mem run prose.straight_end.ended prose.straight_end.clauses
   prose·straight-end κs a g r r' ws ws' h h' = (number 𝓤 _ (h .told) (h' .told), refl)
 
-  pub prose·section-end : Determined 𝓤 H A mem run prose.section_end.ended prose.section_end.clauses
-  prose·section-end κs a g r r' ws ws' h h' = (same 𝓤 (results prose.section_end.ended κs) _ (h .told) (h' .told), refl)
-
   pub prose·text-end : Determined 𝓤 H A mem run prose.text_end.ended prose.text_end.clauses
   prose·text-end κs a g r r' ws ws' h h' = (same 𝓤 (results prose.text_end.ended κs) _ (h .told) (h' .told), refl)
 
@@ -193,12 +190,6 @@ module _ {M : Type 1} (𝓤 : URA M) (H : Heap 𝓤) (A : Atoms 𝓤) (mem : Mem
   fields·system-at κs a g r r' ws ws' h h' = (truth 𝓤 _ (h .told) (h' .told), refl)
 
   -- ---- records
-
-  pub records·kind : Determined 𝓤 H A mem run records.kind.ended records.kind.clauses
-  records·kind κs a g r r' ws ws' h h' = (number 𝓤 _ (h .told) (h' .told), refl)
-
-  pub records·marks : Determined 𝓤 H A mem run records.marks.ended records.marks.clauses
-  records·marks κs a g r r' ws ws' h h' = (number 𝓤 _ (h .told) (h' .told), refl)
 
   pub records·put-header : Determined 𝓤 H A mem run records.put_header.ended records.put_header.clauses
   records·put-header κs a g r r' ws ws' h h' = (refl, λ i. (bytes 𝓤 _ (h .told) (h' .told) i, ws .1))

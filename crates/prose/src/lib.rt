@@ -81,7 +81,7 @@ fn section_turn(s: &[u8], at: usize) -> Turn
 }
 
 // The place after the section whose content begins here, or where its form is broken.
-pub fn section_end(s: &[u8], at: usize) -> Reach
+fn section_end(s: &[u8], at: usize) -> Reach
     ensures { λ r. ⌜ r ≡ sectionAt (now (s .entry)) at ⌝ }
 {
     let mut i = at;

@@ -66,7 +66,7 @@ fn text_of(s: &[u8], places: &[usize], role: usize) -> usize
 // ---- what is not a field's text
 
 // Payments or returns.
-pub fn kind(places: &[usize]) -> u8
+fn kind(places: &[usize]) -> u8
     ensures { λ r. ⌜ r ≡ kindOf (λ k. getD (now (places .entry)) k 0) ⌝ }
 {
     if is_there(places, paths::PAYMENTS) {
@@ -83,7 +83,7 @@ fn bit_of(fact: bool) -> u64
 }
 
 // How the bulk is settled, through which system, and whether a recipient is named.
-pub fn marks(s: &[u8], places: &[usize]) -> u64
+fn marks(s: &[u8], places: &[usize]) -> u64
     ensures { λ r. ⌜ r ≡ marksOf (now (s .entry)) (λ k. getD (now (places .entry)) k 0) ⌝ }
 {
     let clearing = fields::clearing_at(s, text_of(s, places, paths::METHOD));
