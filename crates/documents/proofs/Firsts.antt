@@ -15,46 +15,49 @@ use Rattle.documents.proofs.Here.{byte-here, byte-further, all}
 
 -- the bytes of longer characters
 abbrev pub high : ℕ → Bool
-high b = leb 128 b
+high b = within 128 255 b
 
 -- a text begins with a character, and at most n are behind it
 pub data First (n : ℕ) (t : List ℕ) : Type 0 where
   short : (a : ℕ) (rest : List ℕ) → t ≡ a ∷ rest → single a ≡ true → charactersBy n rest ≡ true → First n t
-  long : (a : ℕ) (more rest : List ℕ) → t ≡ a ∷ (more ++ rest) → 128 ≤ a → all high more ≡ true
+  long : (a : ℕ) (more rest : List ℕ) → t ≡ a ∷ (more ++ rest) → all high (a ∷ more) ≡ true
       → ((s : List ℕ) (at : ℕ) (ys : List ℕ) → drop at s ≡ a ∷ (more ++ ys) → widthAt s at ≡ suc (length more))
       → charactersBy n rest ≡ true → First n t
 
-later-high : (b : ℕ) → later b ≡ true → 128 ≤ b
-later-high b e = within-true 128 191 b e .0
+between-high : (low top b : ℕ) → 128 ≤ low → top ≤ 255 → within low top b ≡ true → high b ≡ true
+between-high low top b h k e = let is = within-true low top b e in rw (le-leb 128 b (omega arith), le-leb b 255 (omega arith))
+
+later-high : (b : ℕ) → later b ≡ true → high b ≡ true
+later-high b e = between-high 128 191 b (omega arith) (omega arith) e
 
 pub none-later : later 0 ≡ true → ⊥
 none-later e = false≢true e
 
 module _ (a b c d : ℕ) where
-  pub double-high : double a b ≡ true → (128 ≤ a) × (later b ≡ true)
-  double-high e = (omega (arith, within-true 194 223 a (front-true (within 194 223 a) (later b) e)), back-true (within 194 223 a) (later b) e)
+  pub double-high : double a b ≡ true → (high a ≡ true) × (later b ≡ true)
+  double-high e = (between-high 194 223 a (omega arith) (omega arith) (front-true (within 194 223 a) (later b) e), back-true (within 194 223 a) (later b) e)
 
   abbrev led : Bool
   led = within 224 239 a && later b && later c
 
-  pub triple-high : triple a b c ≡ true → (128 ≤ a) × (later b ≡ true) × (later c ≡ true)
+  pub triple-high : triple a b c ≡ true → (high a ≡ true) × (later b ≡ true) × (later c ≡ true)
   triple-high e =
       let p = not (eqb a 224 && ltb b 160) in
       let q = not (eqb a 237 && leb 160 b) in
       let three = front-true led p (front-true (led && p) q (front-true (led && p && q) _ e)) in
       let two = front-true (within 224 239 a && later b) (later c) three in
-      (omega (arith, within-true 224 239 a (front-true (within 224 239 a) (later b) two)), back-true (within 224 239 a) (later b) two, back-true (within 224 239 a && later b) (later c) three)
+      (between-high 224 239 a (omega arith) (omega arith) (front-true (within 224 239 a) (later b) two), back-true (within 224 239 a) (later b) two, back-true (within 224 239 a && later b) (later c) three)
 
   abbrev lead : Bool
   lead = within 240 244 a && later b && later c && later d
 
-  pub quadruple-high : quadruple a b c d ≡ true → (128 ≤ a) × (later b ≡ true) × (later c ≡ true) × (later d ≡ true)
+  pub quadruple-high : quadruple a b c d ≡ true → (high a ≡ true) × (later b ≡ true) × (later c ≡ true) × (later d ≡ true)
   quadruple-high e =
       let p = not (eqb a 240 && ltb b 144) in
       let four = front-true lead p (front-true (lead && p) _ e) in
       let three = front-true (within 240 244 a && later b && later c) (later d) four in
       let two = front-true (within 240 244 a && later b) (later c) three in
-      (omega (arith, within-true 240 244 a (front-true (within 240 244 a) (later b) two)), back-true (within 240 244 a) (later b) two, back-true (within 240 244 a && later b) (later c) three, back-true (within 240 244 a && later b && later c) (later d) four)
+      (between-high 240 244 a (omega arith) (omega arith) (front-true (within 240 244 a) (later b) two), back-true (within 240 244 a) (later b) two, back-true (within 240 244 a && later b) (later c) three, back-true (within 240 244 a && later b && later c) (later d) four)
 
 module _ (n a : ℕ) (not-one : single a ≡ false) where
   two-first : (t : List ℕ) → double a (getD t 0 0) ≡ true → charactersBy n (drop 2 (a ∷ t)) ≡ true → First n (a ∷ t)
@@ -62,7 +65,7 @@ module _ (n a : ℕ) (not-one : single a ≡ false) where
   two-first [] e more = absurd (none-later (double-high a 0 0 0 e .1))
   two-first (b ∷ t) e more =
       let is = double-high a b 0 0 e in
-      long a (b ∷ []) t refl (is .0) (rw (le-leb 128 b (later-high b (is .1))))
+      long a (b ∷ []) t refl (rw (is .0, later-high b (is .1)))
       (λ s at ys h. sym (width-bytes s at) ∙ (rw (byte-here s at a (b ∷ ys) h, byte-further s at 1 (a ∷ b ∷ ys) h) (sym (width-double a b _ _ not-one e))))
       more
 
@@ -72,7 +75,7 @@ module _ (n a : ℕ) (not-one : single a ≡ false) where
   three-first (b ∷ []) d e more = absurd (none-later (triple-high a b 0 0 e .2))
   three-first (b ∷ c ∷ t) d e more =
       let is = triple-high a b c 0 e in
-      long a (b ∷ c ∷ []) t refl (is .0) (rw (le-leb 128 b (later-high b (is .1)), le-leb 128 c (later-high c (is .2))))
+      long a (b ∷ c ∷ []) t refl (rw (is .0, later-high b (is .1), later-high c (is .2)))
       (λ s at ys h. sym (width-bytes s at)
       ∙ (rw (byte-here s at a (b ∷ c ∷ ys) h, byte-further s at 1 (a ∷ b ∷ c ∷ ys) h, byte-further s at 2 (a ∷ b ∷ c ∷ ys) h) (sym (width-triple a b c _ not-one d e))))
       more
@@ -85,7 +88,7 @@ module _ (n a : ℕ) (not-one : single a ≡ false) where
   four-first (b ∷ c ∷ []) d f e more = absurd (none-later (quadruple-high a b c 0 e .3))
   four-first (b ∷ c ∷ x ∷ t) d f e more =
       let is = quadruple-high a b c x e in
-      long a (b ∷ c ∷ x ∷ []) t refl (is .0) (rw (le-leb 128 b (later-high b (is .1)), le-leb 128 c (later-high c (is .2)), le-leb 128 x (later-high x (is .3))))
+      long a (b ∷ c ∷ x ∷ []) t refl (rw (is .0, later-high b (is .1), later-high c (is .2), later-high x (is .3)))
       (λ s at ys h. sym (width-bytes s at)
       ∙ (rw (byte-here s at a (b ∷ c ∷ x ∷ ys) h, byte-further s at 1 (a ∷ b ∷ c ∷ x ∷ ys) h, byte-further s at 2 (a ∷ b ∷ c ∷ x ∷ ys) h, byte-further s at 3 (a ∷ b ∷ c ∷ x ∷ ys) h)
       (sym (width-quadruple a b c x not-one d f e))))

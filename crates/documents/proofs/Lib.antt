@@ -16,5 +16,14 @@ pub mod ReadBack
 pub mod Limits
 pub mod Wides
 pub mod Sayings
+pub mod Grown
+pub mod Within
+pub mod Fills
+pub mod Standing
+pub mod Limited
+pub mod Single
+pub mod Every
+pub mod Octets
+pub mod Exactly
 pub mod Instances
 pub mod Cases

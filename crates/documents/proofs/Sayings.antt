@@ -36,16 +36,16 @@ more (suc n) t e = by-tests (eqb (length t) 0) (eqb (widthAt t 0) 0) (more n (dr
     by-tests false true rest e = e
     by-tests false false rest e = rest e
 
-none-left : (n : ℕ) → charactersBy n [] ≡ true
+pub none-left : (n : ℕ) → charactersBy n [] ≡ true
 unfolding charactersBy
 none-left zero = refl
 none-left (suc n) = refl
 
 module _ (m : ℕ) where
-  abbrev Enough : ℕ → Type 0
+  abbrev pub Enough : ℕ → Type 0
   Enough n = (t : List ℕ) → charactersBy n t ≡ true → length t ≤ m → charactersBy m t ≡ true
 
-enough : (n m : ℕ) → Enough m n
+pub enough : (n m : ℕ) → Enough m n
 unfolding charactersBy
 enough zero m t e h = by-list t e
   where
@@ -62,7 +62,7 @@ enough (suc n) (suc m) t e h = by-list (enough n m) t e h
     by-first : Enough m n → (t : List ℕ) → First n t → length t ≤ suc m → charactersBy (suc m) t ≡ true
     by-first rest t (short a more is one behind) h =
         rw is (one-more (a ∷ []) more m (single-wide a 0 0 0 one) (rest more behind (omega (arith, ap length is))))
-    by-first rest t (long a bs more is big highs wide behind) h =
+    by-first rest t (long a bs more is highs wide behind) h =
         let size : length t ≡ suc (length bs + length more) = ap length is ∙ ap suc (length-append bs more) in
         rw is (one-more (a ∷ bs) more m (record { some = omega arith; width = λ ys. wide (a ∷ (bs ++ ys)) 0 ys refl }) (rest more behind (omega arith)))
 

@@ -139,7 +139,7 @@ every-open decimally = refl
 every-open hexadecimally = refl
 every-open byName = refl
 
-all-append : (f : ℕ → Bool) (xs ys : List ℕ) → all f xs ≡ true → all f ys ≡ true → all f (xs ++ ys) ≡ true
+pub all-append : (f : ℕ → Bool) (xs ys : List ℕ) → all f xs ≡ true → all f ys ≡ true → all f (xs ++ ys) ≡ true
 unfolding all
 all-append f [] ys h k = k
 all-append f (x ∷ xs) ys h k =

@@ -7,7 +7,7 @@ use Prim.Native.Nat.{ℕ, zero, suc, _+_, _≤_, _<_}
 use native.Mathlib.Omega.{arith}
 use lib.Dec.{eqb}
 use lib.ListN.{length, take, drop, getD, length-append}
-use borrow.Author.Tests.{ne-eqb, eqb-true, le-ltb, lt-ltb, le-leb, lt-leb, leb-true}
+use borrow.Author.Tests.{ne-eqb, eqb-true, le-ltb, lt-ltb, le-leb, lt-leb}
 use Rattle.wire.specs.Field.{same}
 use Rattle.wire.proofs.Sides.{le-or-lt, both-false}
 use Rattle.letters.specs.Places.{byteAt, onTurn}
@@ -17,7 +17,7 @@ use Rattle.letters.specs.declared.Reach.the-variants.{To}
 use Rattle.letters.specs.declared.Turn.{Turn}
 use Rattle.letters.specs.declared.Turn.the-variants.{On, Ends}
 use Rattle.letters.specs.declared.Reference.the-variants.{Stands}
-use Rattle.letters.proofs.Characters.{encoded-one, width-first}
+use Rattle.letters.proofs.Characters.{within-true, encoded-one, width-first}
 use Rattle.letters.proofs.References.{reference-forward, stands-differs}
 use Rattle.letters.proofs.Walks.{walk-turn}
 use Rattle.prose.specs.Prose.{sectionStart, sectionEnd, textTurn, textAt, pieceAt, saidAt}
@@ -75,7 +75,7 @@ module _ (s : List ℕ) (at : ℕ) where
 
 -- ---- one character as it was spelled
 
-single-small : (a : ℕ) → single a ≡ true → a < 128
+pub single-small : (a : ℕ) → single a ≡ true → a < 128
 single-small a e = by-size (le-or-lt 128 a)
   where
     by-size : (128 ≤ a) ⊎ (a < 128) → a < 128
@@ -115,9 +115,9 @@ unfolding spelled all
 spelled-high how [] rest h = refl
 spelled-high how (x ∷ xs) rest h =
     let both = and-eq-true-iff (high x) (all high xs) .0 h in
-    rw (le-ltb x 128 (leb-true 128 x (both .0))) (ap (λ (l : List ℕ). x ∷ l) (spelled-high how xs rest (both .1)))
+    rw (le-ltb x 128 (within-true 128 255 x (both .0) .0)) (ap (λ (l : List ℕ). x ∷ l) (spelled-high how xs rest (both .1)))
 
-some-left : (a : ℕ) (t : List ℕ) → charactersBy zero (a ∷ t) ≡ true → ⊥
+pub some-left : (a : ℕ) (t : List ℕ) → charactersBy zero (a ∷ t) ≡ true → ⊥
 unfolding charactersBy
 some-left a t h = omega (arith, eqb-true (suc (length t)) 0 h)
 
@@ -155,21 +155,22 @@ module _ (how : Spelling) (n : ℕ) (s ys : List ℕ) where
         let first = spelt-says s at a word left one here (spelled-unended how more (47 ∷ ys)) (spelt-here (how (a ∷ more)) s at a left (single-small a one) one here) in
         rw spelt (then-read s at (a ∷ []) word (spelled how more) more first (rest more (at + length word) behind (skip-here s at word left here)))
 
-    long-read : (a : ℕ) (bs more : List ℕ) → 128 ≤ a → all high bs ≡ true
+    long-read : (a : ℕ) (bs more : List ℕ) → all high (a ∷ bs) ≡ true
         → ((s : List ℕ) (at : ℕ) (ys : List ℕ) → drop at s ≡ a ∷ (bs ++ ys) → widthAt s at ≡ suc (length bs))
         → charactersBy n more ≡ true → drop at s ≡ spelled how (a ∷ (bs ++ more)) ++ (60 ∷ 47 ∷ ys)
         → TextRead s at (spelled how (a ∷ (bs ++ more))) (a ∷ (bs ++ more))
     unfolding all
-    long-read a bs more big highs wide behind e =
+    long-read a bs more highs wide behind e =
         let left = spelled how more ++ (60 ∷ 47 ∷ ys) in
-        let spelt : spelled how (a ∷ (bs ++ more)) ≡ a ∷ (bs ++ spelled how more) = spelled-high how (a ∷ bs) more (rw (le-leb 128 a big) highs) in
+        let spelt : spelled how (a ∷ (bs ++ more)) ≡ a ∷ (bs ++ spelled how more) = spelled-high how (a ∷ bs) more highs in
         let here : drop at s ≡ a ∷ (bs ++ left) = e ∙ ap (λ (l : List ℕ). l ++ (60 ∷ 47 ∷ ys)) spelt ∙ append-assoc (a ∷ bs) (spelled how more) (60 ∷ 47 ∷ ys) in
+        let big = within-true 128 255 a (and-eq-true-iff (high a) (all high bs) .0 highs .0) .0 in
         let first = long-says s at a bs left big (wide s at left here) here in
         rw spelt (then-read s at (a ∷ bs) (a ∷ bs) (spelled how more) more first (rest more (at + suc (length bs)) behind (skip-here s at (a ∷ bs) left here)))
 
     first-read : (t : List ℕ) → First n t → drop at s ≡ spelled how t ++ (60 ∷ 47 ∷ ys) → TextRead s at (spelled how t) t
     first-read t (short a more is one behind) e = rw is (short-read a more one behind (rw is at e))
-    first-read t (long a bs more is big highs wide behind) e = rw is (long-read a bs more big highs wide behind (rw is at e))
+    first-read t (long a bs more is highs wide behind) e = rw is (long-read a bs more highs wide behind (rw is at e))
 
 module _ (how : Spelling) (s ys : List ℕ) where
   none-read : (at : ℕ) → drop at s ≡ spelled how [] ++ (60 ∷ 47 ∷ ys) → TextRead s at (spelled how []) []

@@ -5,3 +5,4 @@ pub mod Carried
 pub mod NothingElse
 pub mod Documents
 pub mod ReadsBack
+pub mod ExactlyThese
