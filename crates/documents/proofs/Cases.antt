@@ -7,7 +7,7 @@ use Prim.Native.Nat.{ℕ}
 use Rattle.wire.specs.Field.{text}
 use Rattle.letters.specs.Characters.{widthOf, widthAt}
 use Rattle.fields.proofs.Computing.{fieldsCompute}
-use Rattle.documents.specs.Spelling.{hexadecimally, spelledBy, spelled, asItStands, byNumbers, byNames}
+use Rattle.documents.specs.Spelling.{hexadecimally, hexadecimalIn, spelledBy, numberIn, longBy, spelledIn, spelled, asItStands, byNumbers, byNames}
 use Rattle.documents.specs.Markup.{writtenTo}
 use Rattle.documents.specs.Amounts.{carriedAmount, tenthsText, euroText}
 use Rattle.documents.specs.Carried.{charactersBy, characters}
@@ -15,7 +15,7 @@ use Rattle.documents.specs.Documents.{eachOf, documents, documentsOf}
 use Rattle.documents.proofs.Instances.{payments, returns}
 
 unfoldable computes : Unit {0}
-unfolding fieldsCompute widthOf widthAt spelledBy spelled writtenTo tenthsText euroText charactersBy eachOf documents documentsOf
+unfolding fieldsCompute widthOf widthAt hexadecimalIn spelledBy numberIn longBy spelledIn spelled writtenTo tenthsText euroText charactersBy eachOf documents documentsOf
 computes = tt
 
 -- ---- spellings
@@ -36,10 +36,18 @@ named : spelled byNames (text "<>&'\"x") ≡ text "&lt;&gt;&amp;&apos;&quot;x"
 unfolding computes
 named = refl
 
--- a letter of two bytes stands as it is, in every spelling
-longer : spelled byNumbers (65 ∷ 195 ∷ 164 ∷ []) ≡ text "&#65;" ++ (195 ∷ 164 ∷ [])
+-- letters of two, three and four bytes
+longer : spelled byNumbers (65 ∷ 195 ∷ 164 ∷ []) ≡ text "&#65;&#228;"
 unfolding computes
 longer = refl
+
+longest : spelled (λ left. hexadecimally) (226 ∷ 130 ∷ 172 ∷ 240 ∷ 159 ∷ 152 ∷ 128 ∷ []) ≡ text "&#x20AC;&#x1F600;"
+unfolding computes
+longest = refl
+
+unchanged : spelled byNames (195 ∷ 164 ∷ 38 ∷ []) ≡ 195 ∷ 164 ∷ text "&amp;"
+unfolding computes
+unchanged = refl
 
 -- ---- what can be carried
 

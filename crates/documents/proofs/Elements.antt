@@ -93,7 +93,7 @@ module _ (how : Spelling) (d : ℕ) (s : List ℕ) (parent role at : ℕ) (name 
       → drop inside s ≡ spelled how said ++ closeTo name behind → FieldRead (elementAt (suc d) s role at) s role at name said behind
   unfolding elementAt fieldAt filledField
   started end inside start currency some named e =
-      let t = text-reads how s (name ++ (62 ∷ behind)) (length said) said inside (f .carried) e in
+      let t = text-reads how s (name ++ (62 ∷ behind)) said inside (f .carried) e in
       let over = skip-here s inside (spelled how said) (closeTo name behind) e in
       let stop = inside + length (spelled how said) in
       record {

@@ -33,7 +33,7 @@ module _ (ys : List ℕ) (more : characters ys ≡ true) where
       by-first : ((xs : List ℕ) → charactersBy n xs ≡ true → characters (xs ++ ys) ≡ true) → (t : List ℕ) → First n t → characters (t ++ ys) ≡ true
       by-first rest t (short b left is one behind) =
           rw is (one-more (b ∷ []) (left ++ ys) (length (left ++ ys)) (single-wide b 0 0 0 one) (rest left behind))
-      by-first rest t (long b bs left is highs wide behind) =
+      by-first rest t (long b bs left is highs wide numbered behind) =
           let whole = b ∷ (bs ++ (left ++ ys)) in
           let size : length (bs ++ (left ++ ys)) ≡ length bs + length (left ++ ys) = length-append bs (left ++ ys) in
           let first = one-more (b ∷ bs) (left ++ ys) (length (left ++ ys)) (record { some = omega arith; width = λ zs. wide (b ∷ (bs ++ zs)) 0 zs refl }) (rest left behind) in

@@ -12,17 +12,18 @@ use Rattle.letters.specs.Characters.{single, double, triple, quadruple, later, 
 use Rattle.letters.proofs.Characters.{front-true, back-true, within-true, width-double, width-triple, width-quadruple, width-bytes}
 use Rattle.documents.specs.Carried.{charactersBy}
 use Rattle.documents.proofs.Here.{byte-here, byte-further, all}
+use Rattle.documents.proofs.Numbers.{Numbered, double-numbered, triple-numbered, quadruple-numbered}
 
 -- the bytes of longer characters
 abbrev pub high : ℕ → Bool
 high b = within 128 255 b
 
--- a text begins with a character, and at most n are behind it
+-- a text begins with a character, which takes one byte or has a number, and at most n are behind it
 pub data First (n : ℕ) (t : List ℕ) : Type 0 where
   short : (a : ℕ) (rest : List ℕ) → t ≡ a ∷ rest → single a ≡ true → charactersBy n rest ≡ true → First n t
   long : (a : ℕ) (more rest : List ℕ) → t ≡ a ∷ (more ++ rest) → all high (a ∷ more) ≡ true
       → ((s : List ℕ) (at : ℕ) (ys : List ℕ) → drop at s ≡ a ∷ (more ++ ys) → widthAt s at ≡ suc (length more))
-      → charactersBy n rest ≡ true → First n t
+      → Numbered (a ∷ more) → charactersBy n rest ≡ true → First n t
 
 between-high : (low top b : ℕ) → 128 ≤ low → top ≤ 255 → within low top b ≡ true → high b ≡ true
 between-high low top b h k e = let is = within-true low top b e in rw (le-leb 128 b (omega arith), le-leb b 255 (omega arith))
@@ -67,7 +68,7 @@ module _ (n a : ℕ) (not-one : single a ≡ false) where
       let is = double-high a b 0 0 e in
       long a (b ∷ []) t refl (rw (is .0, later-high b (is .1)))
       (λ s at ys h. sym (width-bytes s at) ∙ (rw (byte-here s at a (b ∷ ys) h, byte-further s at 1 (a ∷ b ∷ ys) h) (sym (width-double a b _ _ not-one e))))
-      more
+      (double-numbered a b e) more
 
   three-first : (t : List ℕ) → double a (getD t 0 0) ≡ false → triple a (getD t 0 0) (getD t 1 0) ≡ true → charactersBy n (drop 3 (a ∷ t)) ≡ true → First n (a ∷ t)
   unfolding all
@@ -78,7 +79,7 @@ module _ (n a : ℕ) (not-one : single a ≡ false) where
       long a (b ∷ c ∷ []) t refl (rw (is .0, later-high b (is .1), later-high c (is .2)))
       (λ s at ys h. sym (width-bytes s at)
       ∙ (rw (byte-here s at a (b ∷ c ∷ ys) h, byte-further s at 1 (a ∷ b ∷ c ∷ ys) h, byte-further s at 2 (a ∷ b ∷ c ∷ ys) h) (sym (width-triple a b c _ not-one d e))))
-      more
+      (triple-numbered a b c e) more
 
   four-first : (t : List ℕ) → double a (getD t 0 0) ≡ false → triple a (getD t 0 0) (getD t 1 0) ≡ false
       → quadruple a (getD t 0 0) (getD t 1 0) (getD t 2 0) ≡ true → charactersBy n (drop 4 (a ∷ t)) ≡ true → First n (a ∷ t)
@@ -92,7 +93,7 @@ module _ (n a : ℕ) (not-one : single a ≡ false) where
       (λ s at ys h. sym (width-bytes s at)
       ∙ (rw (byte-here s at a (b ∷ c ∷ x ∷ ys) h, byte-further s at 1 (a ∷ b ∷ c ∷ x ∷ ys) h, byte-further s at 2 (a ∷ b ∷ c ∷ x ∷ ys) h, byte-further s at 3 (a ∷ b ∷ c ∷ x ∷ ys) h)
       (sym (width-quadruple a b c x not-one d f e))))
-      more
+      (quadruple-numbered a b c x e) more
 
 pub first-of : (n a : ℕ) (t : List ℕ) → charactersBy (suc n) (a ∷ t) ≡ true → First n (a ∷ t)
 unfolding charactersBy widthAt widthOf

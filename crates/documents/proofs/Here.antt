@@ -1,6 +1,6 @@
 -- What stands at a place of a text, where what is left of the text from there on is known. Assumes nothing.
 use mathlib.Core.Path.{_≡_, refl, sym, ap, _∙_}
-use mathlib.Core.Bool.{Bool, true, false, cond, _&&_, false≢true}
+use mathlib.Core.Bool.{Bool, true, false, cond, _&&_, and-eq-true-iff, false≢true}
 use mathlib.Core.List.{List, [], _∷_, _++_}
 use Prim.Native.Nat.{ℕ, suc, _+_, _-_, _≤_, _<_}
 use native.Mathlib.Nat.{add-sub-cancel-left}
@@ -41,6 +41,20 @@ module _ (s : List ℕ) (at : ℕ) where
 unfoldable pub all : (ℕ → Bool) → List ℕ → Bool
 all f [] = true
 all f (b ∷ bs) = f b && all f bs
+
+pub all-append : (f : ℕ → Bool) (xs ys : List ℕ) → all f xs ≡ true → all f ys ≡ true → all f (xs ++ ys) ≡ true
+unfolding all
+all-append f [] ys h k = k
+all-append f (x ∷ xs) ys h k =
+    let both = and-eq-true-iff (f x) (all f xs) .0 h in
+    rw (both .0) (all-append f xs ys (both .1) k)
+
+pub all-weaker : (f g : ℕ → Bool) → ((b : ℕ) → f b ≡ true → g b ≡ true) → (t : List ℕ) → all f t ≡ true → all g t ≡ true
+unfolding all
+all-weaker f g weaker [] h = refl
+all-weaker f g weaker (b ∷ bs) h =
+    let both = and-eq-true-iff (f b) (all f bs) .0 h in
+    rw (weaker b (both .0)) (all-weaker f g weaker bs (both .1))
 
 pub run-all : (f : ℕ → Bool) (t : List ℕ) (b : ℕ) (ys : List ℕ) → all f t ≡ true → f b ≡ false → run f (t ++ (b ∷ ys)) ≡ length t
 unfolding run all

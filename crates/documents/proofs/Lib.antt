@@ -1,6 +1,9 @@
 pub mod Here
+pub mod Numbers
+pub mod Referred
 pub mod Spelled
 pub mod Firsts
+pub mod Safe
 pub mod Texts
 pub mod Tags
 pub mod Elements

@@ -62,7 +62,7 @@ enough (suc n) (suc m) t e h = by-list (enough n m) t e h
     by-first : Enough m n → (t : List ℕ) → First n t → length t ≤ suc m → charactersBy (suc m) t ≡ true
     by-first rest t (short a more is one behind) h =
         rw is (one-more (a ∷ []) more m (single-wide a 0 0 0 one) (rest more behind (omega (arith, ap length is))))
-    by-first rest t (long a bs more is highs wide behind) h =
+    by-first rest t (long a bs more is highs wide numbered behind) h =
         let size : length t ≡ suc (length bs + length more) = ap length is ∙ ap suc (length-append bs more) in
         rw is (one-more (a ∷ bs) more m (record { some = omega arith; width = λ ys. wide (a ∷ (bs ++ ys)) 0 ys refl }) (rest more behind (omega arith)))
 

@@ -1,19 +1,17 @@
 -- A spelled character stands for itself, at any place of a text. Assumes nothing.
 use mathlib.Core.Path.{_≡_, refl, sym, ap, _∙_}
-use mathlib.Core.Bool.{Bool, true, false, cond, not, _&&_, _||_, and-eq-true-iff, and-false, false≢true}
-use mathlib.Core.Logic.{_⊎_, inl, inr}
+use mathlib.Core.Bool.{Bool, true, false, cond, not, _&&_, _||_, and-eq-true-iff, false≢true}
 use mathlib.Core.List.{List, [], _∷_, _++_}
-use Prim.Native.Nat.{ℕ, zero, suc, _+_, _≤_, _<_}
+use Prim.Native.Nat.{ℕ, zero, suc, _+_, _<_}
 use native.Mathlib.Nat.{add-sub-cancel-left}
 use native.Mathlib.Omega.{arith}
 use lib.Dec.{eqb, ltb}
 use lib.ListN.{length, take, drop}
 use lib.Seq.{drop-drop, getD-drop}
-use borrow.Author.Tests.{eqb-true, lt-ltb, le-ltb, ne-eqb, not-true}
+use borrow.Author.Tests.{eqb-true, lt-ltb, le-ltb, not-true}
 use Rattle.wire.specs.Field.{text, same}
 use Rattle.wire.specs.Places.{everyFrom}
 use Rattle.wire.proofs.Scans.{every-holds}
-use Rattle.wire.proofs.Sides.{le-or-lt}
 use Rattle.wire.proofs.Texts.{same-equal}
 use Rattle.letters.specs.Places.{byteAt, run, between}
 use Rattle.letters.specs.Characters.{isCharacter, single}
@@ -21,8 +19,7 @@ use Rattle.letters.specs.References.{digitOf, digitIn, numeralFrom, numeral, nu
 use Rattle.letters.specs.declared.Reference.{Reference}
 use Rattle.letters.specs.declared.Reference.the-variants.{Stands, Nothing}
 use Rattle.decimals.specs.Decimal.{digitsOf, decimalIn, decimal}
-use Rattle.documents.specs.Spelling.{Way, itself, decimally, hexadecimally, byName, referred, spelledBy, Spelling, spelled}
-use Rattle.documents.proofs.Here.{all}
+use Rattle.documents.specs.Spelling.{Way, itself, decimally, hexadecimally, byName, referred, hexadecimalIn, spelledBy}
 
 -- ---- a reference by what is left of the text
 
@@ -100,7 +97,7 @@ right word ys c = not (single c) || (same word (c ∷ []) && not (referred c)) |
 
 -- of all characters of one byte, by computing
 every-right : (w : Way) (ys : List ℕ) → everyFrom (λ c. right (spelledBy w c) ys c) 128 0 ≡ true
-unfolding everyFrom same isCharacter run digitOf numeralFrom numberedAt referenceAt decimal decimalIn digitsOf spelledBy
+unfolding everyFrom same isCharacter run digitOf numeralFrom numberedAt referenceAt decimal decimalIn digitsOf hexadecimalIn spelledBy
 every-right itself ys = refl
 every-right decimally ys = refl
 every-right hexadecimally ys = refl
@@ -126,43 +123,3 @@ module _ (s : List ℕ) (at c : ℕ) (word ys : List ℕ) (one : single c ≡ tr
 pub spelt-here : (w : Way) (s : List ℕ) (at c : ℕ) (ys : List ℕ) → c < 128 → single c ≡ true → drop at s ≡ spelledBy w c ++ ys → Spelt s at c (spelledBy w c)
 spelt-here w s at c ys small one e =
     spelt-right s at c (spelledBy w c) ys one e (every-holds (λ k. right (spelledBy w k) ys k) 128 0 c (every-right w ys) (omega arith) (omega arith))
-
--- ---- no spelling has a '>', so that nothing spelled holds the end of a section
-
-abbrev unclosing : ℕ → Bool
-unclosing b = not (eqb b 62)
-
-every-open : (w : Way) → everyFrom (λ c. all unclosing (spelledBy w c)) 128 0 ≡ true
-unfolding everyFrom all spelledBy decimal decimalIn digitsOf
-every-open itself = refl
-every-open decimally = refl
-every-open hexadecimally = refl
-every-open byName = refl
-
-pub all-append : (f : ℕ → Bool) (xs ys : List ℕ) → all f xs ≡ true → all f ys ≡ true → all f (xs ++ ys) ≡ true
-unfolding all
-all-append f [] ys h k = k
-all-append f (x ∷ xs) ys h k =
-    let both = and-eq-true-iff (f x) (all f xs) .0 h in
-    rw (both .0) (all-append f xs ys (both .1) k)
-
-spelled-open : (how : Spelling) (t : List ℕ) → all unclosing (spelled how t) ≡ true
-unfolding spelled all
-spelled-open how [] = refl
-spelled-open how (b ∷ bs) = all-append unclosing (cond (ltb b 128) (spelledBy (how (b ∷ bs)) b) (b ∷ [])) (spelled how bs) (by-test (le-or-lt 128 b)) (spelled-open how bs)
-  where
-    by-test : (128 ≤ b) ⊎ (b < 128) → all unclosing (cond (ltb b 128) (spelledBy (how (b ∷ bs)) b) (b ∷ [])) ≡ true
-    by-test (inl big) = rw (le-ltb b 128 big, ne-eqb b 62 (λ z. omega arith))
-    by-test (inr small) = rw (lt-ltb b 128 small) (every-holds (λ c. all unclosing (spelledBy (how (b ∷ bs)) c)) 128 0 b (every-open (how (b ∷ bs))) (omega arith) (omega arith))
-
-unended : (xs ys : List ℕ) → all unclosing xs ≡ true → same (take 2 (xs ++ (60 ∷ ys))) (93 ∷ 62 ∷ []) ≡ false
-unfolding all same
-unended [] ys h = refl
-unended (x ∷ []) ys h = and-false (eqb x 93)
-unended (x ∷ y ∷ xs) ys h =
-    let rest = and-eq-true-iff (unclosing x) (unclosing y && all unclosing xs) .0 h .1 in
-    let not-end : eqb y 62 ≡ false = not-true (eqb y 62) (and-eq-true-iff (unclosing y) (all unclosing xs) .0 rest .0) in
-    rw not-end (and-false (eqb x 93))
-
-pub spelled-unended : (how : Spelling) (t ys : List ℕ) → same (take 2 (spelled how t ++ (60 ∷ ys))) (93 ∷ 62 ∷ []) ≡ false
-spelled-unended how t ys = unended (spelled how t) ys (spelled-open how t)

@@ -1,17 +1,16 @@
 -- A spelled text ends where it was written to, and says what was spelled. Assumes nothing.
 use mathlib.Core.Path.{_≡_, refl, sym, ap, _∙_}
-use mathlib.Core.Logic.{_⊎_, inl, inr}
-use mathlib.Core.Bool.{true, false, _||_, and-false, and-eq-true-iff, false≢true}
+use mathlib.Core.Bool.{true, false, _||_, and-false, and-eq-true-iff}
 use mathlib.Core.List.{List, [], _∷_, _++_, append-assoc}
 use Prim.Native.Nat.{ℕ, zero, suc, _+_, _≤_, _<_}
 use native.Mathlib.Omega.{arith}
 use lib.Dec.{eqb}
 use lib.ListN.{length, take, drop, getD, length-append}
-use borrow.Author.Tests.{ne-eqb, eqb-true, le-ltb, lt-ltb, le-leb, lt-leb}
+use borrow.Author.Tests.{ne-eqb, eqb-true}
 use Rattle.wire.specs.Field.{same}
-use Rattle.wire.proofs.Sides.{le-or-lt, both-false}
+use Rattle.wire.proofs.Sides.{both-false}
 use Rattle.letters.specs.Places.{byteAt, onTurn}
-use Rattle.letters.specs.Characters.{single, widthAt}
+use Rattle.letters.specs.Characters.{encoded, single, widthAt}
 use Rattle.letters.specs.References.{stands, referenceAt}
 use Rattle.letters.specs.declared.Reach.the-variants.{To}
 use Rattle.letters.specs.declared.Turn.{Turn}
@@ -24,10 +23,13 @@ use Rattle.prose.specs.Prose.{sectionStart, sectionEnd, textTurn, textAt, piece
 use Rattle.prose.specs.declared.Piece.the-variants.{Itself, Other, Silent}
 use Rattle.prose.proofs.Turns.{text-onward}
 use Rattle.prose.proofs.Pieces.{said-piece}
-use Rattle.documents.specs.Spelling.{spelledBy, Spelling, spelled}
-use Rattle.documents.specs.Carried.{charactersBy}
+use Rattle.documents.specs.Spelling.{Way, itself, decimally, hexadecimally, byName, numberIn, spelledBy, longBy, Spelling, spelledIn, spelled}
+use Rattle.documents.specs.Carried.{charactersBy, characters}
 use Rattle.documents.proofs.Here.{byte-here, skip-here, part-here, all}
-use Rattle.documents.proofs.Spelled.{Spelt, plain, refers-to, spelt-here, spelled-unended}
+use Rattle.documents.proofs.Spelled.{Spelt, plain, refers-to, spelt-here}
+use Rattle.documents.proofs.Numbers.{Numbered}
+use Rattle.documents.proofs.Referred.{decimal-refers, hexadecimal-refers}
+use Rattle.documents.proofs.Safe.{single-small, short-spelled, long-spelled, spelled-unended}
 use Rattle.documents.proofs.Firsts.{high, First, short, long, first-of}
 
 -- ---- one character
@@ -51,12 +53,12 @@ module _ (s : List ℕ) (at : ℕ) where
         said-piece s false at (Itself (length xs)) (rw (a, b, c, width, wide)) ∙ ap (λ (l : List ℕ). l ++ saidAt s (at + length xs)) (part-here s at xs ys e),
       )
 
-  reference-says : (c next : ℕ) → referenceAt s at ≡ Stands c next → c < 128 → Says (c ∷ []) next
+  reference-says : (c next : ℕ) (xs : List ℕ) → referenceAt s at ≡ Stands c next → encoded c ≡ xs → Says xs next
   unfolding textTurn pieceAt saidAt
-  reference-says c next e small =
+  reference-says c next xs e is =
       let sign = reference-forward s at c next e .2 in (
         text-turn (On next) (rw (sign, e)),
-        said-piece s false at (Other c next) (rw (sign, e)) ∙ ap (λ (l : List ℕ). l ++ saidAt s next) (encoded-one c small),
+        said-piece s false at (Other c next) (rw (sign, e)) ∙ ap (λ (l : List ℕ). l ++ saidAt s next) is,
       )
 
   -- the text is over, and says nothing more
@@ -75,18 +77,10 @@ module _ (s : List ℕ) (at : ℕ) where
 
 -- ---- one character as it was spelled
 
-pub single-small : (a : ℕ) → single a ≡ true → a < 128
-single-small a e = by-size (le-or-lt 128 a)
-  where
-    by-size : (128 ≤ a) ⊎ (a < 128) → a < 128
-    by-size (inl big) =
-        absurd (false≢true (sym (rw (ne-eqb a 9 (λ z. omega arith), ne-eqb a 10 (λ z. omega arith), ne-eqb a 13 (λ z. omega arith), le-leb 32 a (omega arith), lt-leb a 127 (omega arith))) ∙ e))
-    by-size (inr small) = small
-
 module _ (s : List ℕ) (at c : ℕ) (word ys : List ℕ) (one : single c ≡ true) (e : drop at s ≡ word ++ ys) (unended : same (take 2 ys) (93 ∷ 62 ∷ []) ≡ false) where
   spelt-says : Spelt s at c word → Says s at (c ∷ []) (at + length word)
   unfolding same
-  spelt-says (refers-to told) = reference-says s at c (at + length word) told (single-small c one)
+  spelt-says (refers-to told) = reference-says s at c (at + length word) (c ∷ []) told (encoded-one c (single-small c one))
   spelt-says (plain is free) =
       let here : drop at s ≡ c ∷ ys = e ∙ ap (λ (l : List ℕ). l ++ ys) is in
       let byte = byte-here s at c ys here in
@@ -108,14 +102,21 @@ module _ (s : List ℕ) (at a : ℕ) (more ys : List ℕ) (high : 128 ≤ a) (wi
       (rw byte (ne-eqb a 60 (λ z. omega arith))) (rw byte (ne-eqb a 38 (λ z. omega arith))) (rw byte (ne-eqb a 13 (λ z. omega arith)))
       (stands-differs s at 93 (93 ∷ 62 ∷ []) (λ z. omega arith))
 
--- ---- a text
+-- a longer one, written in any way
+module _ (s : List ℕ) (at a : ℕ) (bs left : List ℕ) (highs : all high (a ∷ bs) ≡ true) (numbered : Numbered (a ∷ bs))
+    (wide : (s : List ℕ) (at : ℕ) (ys : List ℕ) → drop at s ≡ a ∷ (bs ++ ys) → widthAt s at ≡ suc (length bs)) where
+  as-it-stands : drop at s ≡ a ∷ (bs ++ left) → Says s at (a ∷ bs) (at + suc (length bs))
+  unfolding all
+  as-it-stands e = long-says s at a bs left (within-true 128 255 a (and-eq-true-iff (high a) (all high bs) .0 highs .0) .0) (wide s at left e) e
 
-pub spelled-high : (how : Spelling) (xs rest : List ℕ) → all high xs ≡ true → spelled how (xs ++ rest) ≡ xs ++ spelled how rest
-unfolding spelled all
-spelled-high how [] rest h = refl
-spelled-high how (x ∷ xs) rest h =
-    let both = and-eq-true-iff (high x) (all high xs) .0 h in
-    rw (le-ltb x 128 (within-true 128 255 x (both .0) .0)) (ap (λ (l : List ℕ). x ∷ l) (spelled-high how xs rest (both .1)))
+  long-spelt : (w : Way) → drop at s ≡ longBy w (a ∷ bs) ++ left → Says s at (a ∷ bs) (at + length (longBy w (a ∷ bs)))
+  unfolding longBy
+  long-spelt itself e = as-it-stands e
+  long-spelt decimally e = reference-says s at (numberIn (a ∷ bs)) _ (a ∷ bs) (decimal-refers s at (numberIn (a ∷ bs)) left (numbered .character) e) (numbered .back)
+  long-spelt hexadecimally e = reference-says s at (numberIn (a ∷ bs)) _ (a ∷ bs) (hexadecimal-refers (numberIn (a ∷ bs)) (numbered .character) s at left e) (numbered .back)
+  long-spelt byName e = as-it-stands e
+
+-- ---- a text
 
 pub some-left : (a : ℕ) (t : List ℕ) → charactersBy zero (a ∷ t) ≡ true → ⊥
 unfolding charactersBy
@@ -138,53 +139,57 @@ module _ (s : List ℕ) (at : ℕ) (xs word rest said : List ℕ) where
 
 module _ (how : Spelling) (n : ℕ) (s ys : List ℕ) where
   abbrev Reads : Type 0
-  Reads = (t : List ℕ) (at : ℕ) → charactersBy n t ≡ true → drop at s ≡ spelled how t ++ (60 ∷ 47 ∷ ys) → TextRead s at (spelled how t) t
+  Reads = (t : List ℕ) (at : ℕ) → charactersBy n t ≡ true → drop at s ≡ spelledIn how n t ++ (60 ∷ 47 ∷ ys) → TextRead s at (spelledIn how n t) t
 
-  module _ (rest : Reads) (at : ℕ) where
-    short-spelled : (a : ℕ) (more : List ℕ) → single a ≡ true → spelled how (a ∷ more) ≡ spelledBy (how (a ∷ more)) a ++ spelled how more
-    unfolding spelled
-    short-spelled a more one = rw (lt-ltb a 128 (single-small a one))
+module _ (how : Spelling) (n : ℕ) (s ys : List ℕ) (rest : Reads how n s ys) (at : ℕ) where
+  -- what is spelled of a character, and what is spelled behind it
+  module _ (t xs word more : List ℕ) (spelt : spelledIn how (suc n) t ≡ word ++ spelledIn how n more) (e : drop at s ≡ spelledIn how (suc n) t ++ (60 ∷ 47 ∷ ys))
+      (behind : charactersBy n more ≡ true) where
+    here : drop at s ≡ word ++ (spelledIn how n more ++ (60 ∷ 47 ∷ ys))
+    here = e ∙ ap (λ (l : List ℕ). l ++ (60 ∷ 47 ∷ ys)) spelt ∙ append-assoc word (spelledIn how n more) (60 ∷ 47 ∷ ys)
 
-    short-read : (a : ℕ) (more : List ℕ) → single a ≡ true → charactersBy n more ≡ true → drop at s ≡ spelled how (a ∷ more) ++ (60 ∷ 47 ∷ ys)
-        → TextRead s at (spelled how (a ∷ more)) (a ∷ more)
-    short-read a more one behind e =
-        let word = spelledBy (how (a ∷ more)) a in
-        let left = spelled how more ++ (60 ∷ 47 ∷ ys) in
-        let spelt = short-spelled a more one in
-        let here : drop at s ≡ word ++ left = e ∙ ap (λ (l : List ℕ). l ++ (60 ∷ 47 ∷ ys)) spelt ∙ append-assoc word (spelled how more) (60 ∷ 47 ∷ ys) in
-        let first = spelt-says s at a word left one here (spelled-unended how more (47 ∷ ys)) (spelt-here (how (a ∷ more)) s at a left (single-small a one) one here) in
-        rw spelt (then-read s at (a ∷ []) word (spelled how more) more first (rest more (at + length word) behind (skip-here s at word left here)))
+    both-read : Says s at xs (at + length word) → TextRead s at (spelledIn how (suc n) t) (xs ++ more)
+    both-read first =
+        rw spelt (then-read s at xs word (spelledIn how n more) more first (rest more (at + length word) behind (skip-here s at word (spelledIn how n more ++ (60 ∷ 47 ∷ ys)) here)))
 
-    long-read : (a : ℕ) (bs more : List ℕ) → all high (a ∷ bs) ≡ true
-        → ((s : List ℕ) (at : ℕ) (ys : List ℕ) → drop at s ≡ a ∷ (bs ++ ys) → widthAt s at ≡ suc (length bs))
-        → charactersBy n more ≡ true → drop at s ≡ spelled how (a ∷ (bs ++ more)) ++ (60 ∷ 47 ∷ ys)
-        → TextRead s at (spelled how (a ∷ (bs ++ more))) (a ∷ (bs ++ more))
-    unfolding all
-    long-read a bs more highs wide behind e =
-        let left = spelled how more ++ (60 ∷ 47 ∷ ys) in
-        let spelt : spelled how (a ∷ (bs ++ more)) ≡ a ∷ (bs ++ spelled how more) = spelled-high how (a ∷ bs) more highs in
-        let here : drop at s ≡ a ∷ (bs ++ left) = e ∙ ap (λ (l : List ℕ). l ++ (60 ∷ 47 ∷ ys)) spelt ∙ append-assoc (a ∷ bs) (spelled how more) (60 ∷ 47 ∷ ys) in
-        let big = within-true 128 255 a (and-eq-true-iff (high a) (all high bs) .0 highs .0) .0 in
-        let first = long-says s at a bs left big (wide s at left here) here in
-        rw spelt (then-read s at (a ∷ bs) (a ∷ bs) (spelled how more) more first (rest more (at + suc (length bs)) behind (skip-here s at (a ∷ bs) left here)))
+  short-read : (a : ℕ) (more : List ℕ) → single a ≡ true → charactersBy n more ≡ true → drop at s ≡ spelledIn how (suc n) (a ∷ more) ++ (60 ∷ 47 ∷ ys)
+      → TextRead s at (spelledIn how (suc n) (a ∷ more)) (a ∷ more)
+  short-read a more one behind e =
+      let word = spelledBy (how (a ∷ more)) a in
+      let left = spelledIn how n more ++ (60 ∷ 47 ∷ ys) in
+      let spelt = short-spelled how n a more one in
+      let stands-here = here (a ∷ more) (a ∷ []) word more spelt e behind in
+      both-read (a ∷ more) (a ∷ []) word more spelt e behind
+      (spelt-says s at a word left one stands-here (spelled-unended how n more (47 ∷ ys) behind) (spelt-here (how (a ∷ more)) s at a left (single-small a one) one stands-here))
 
-    first-read : (t : List ℕ) → First n t → drop at s ≡ spelled how t ++ (60 ∷ 47 ∷ ys) → TextRead s at (spelled how t) t
-    first-read t (short a more is one behind) e = rw is (short-read a more one behind (rw is at e))
-    first-read t (long a bs more is highs wide behind) e = rw is (long-read a bs more highs wide behind (rw is at e))
+  first-read : (t : List ℕ) → First n t → drop at s ≡ spelledIn how (suc n) t ++ (60 ∷ 47 ∷ ys) → TextRead s at (spelledIn how (suc n) t) t
+  first-read t (short a more is one behind) e = rw is (short-read a more one behind (rw is at e))
+  first-read t (long a bs more is highs wide numbered behind) e =
+      let whole = a ∷ (bs ++ more) in
+      let e' : drop at s ≡ spelledIn how (suc n) whole ++ (60 ∷ 47 ∷ ys) = rw is at e in
+      let word = longBy (how whole) (a ∷ bs) in
+      let left = spelledIn how n more ++ (60 ∷ 47 ∷ ys) in
+      let spelt = long-spelled how n a bs more highs (wide whole 0 more refl) in
+      let stands-here = here whole (a ∷ bs) word more spelt e' behind in
+      rw is (both-read whole (a ∷ bs) word more spelt e' behind (long-spelt s at a bs left highs numbered wide (how whole) stands-here))
 
 module _ (how : Spelling) (s ys : List ℕ) where
-  none-read : (at : ℕ) → drop at s ≡ spelled how [] ++ (60 ∷ 47 ∷ ys) → TextRead s at (spelled how []) []
-  unfolding spelled
+  none-read : (at : ℕ) → drop at s ≡ 60 ∷ 47 ∷ ys → TextRead s at [] []
   none-read at e = let over = text-over s at (47 ∷ ys) (λ z. omega arith) e in record { ends = over .0 ∙ ap To (omega arith); says = over .1 }
 
-  pub text-reads : (n : ℕ) → Reads how n s ys
-  text-reads zero t at h e = by-list t h e
+  reads-by : (n : ℕ) → Reads how n s ys
+  unfolding spelledIn
+  reads-by zero t at h e = by-list t h
     where
-      by-list : (t : List ℕ) → charactersBy zero t ≡ true → drop at s ≡ spelled how t ++ (60 ∷ 47 ∷ ys) → TextRead s at (spelled how t) t
-      by-list [] h e = none-read at e
-      by-list (a ∷ t) h e = absurd (some-left a t h)
-  text-reads (suc n) t at h e = by-list (text-reads n) t h e
+      by-list : (t : List ℕ) → charactersBy zero t ≡ true → TextRead s at [] t
+      by-list [] h = none-read at e
+      by-list (a ∷ t) h = absurd (some-left a t h)
+  reads-by (suc n) t at h e = by-list (reads-by n) t h e
     where
-      by-list : Reads how n s ys → (t : List ℕ) → charactersBy (suc n) t ≡ true → drop at s ≡ spelled how t ++ (60 ∷ 47 ∷ ys) → TextRead s at (spelled how t) t
+      by-list : Reads how n s ys → (t : List ℕ) → charactersBy (suc n) t ≡ true → drop at s ≡ spelledIn how (suc n) t ++ (60 ∷ 47 ∷ ys) → TextRead s at (spelledIn how (suc n) t) t
       by-list rest [] h e = none-read at e
       by-list rest (a ∷ t) h e = first-read how n s ys rest at (a ∷ t) (first-of n a t h) e
+
+  pub text-reads : (t : List ℕ) (at : ℕ) → characters t ≡ true → drop at s ≡ spelled how t ++ (60 ∷ 47 ∷ ys) → TextRead s at (spelled how t) t
+  unfolding spelled
+  text-reads t at h e = reads-by (length t) t at h e
