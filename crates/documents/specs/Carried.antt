@@ -1,4 +1,5 @@
--- The bulks that documents can carry: each limit is one of the reader's own (`NothingElse`). Assumes nothing.
+-- The bulks that documents can carry: each limit is one of the reader's own (`NothingElse`), and they are exactly those that can be read (`ExactlyThese`).
+-- Assumes nothing.
 use Prim.Native.Nat.{ℕ, zero, suc, _^_, _<_}
 use mathlib.Core.Path.{_≡_}
 use mathlib.Core.Bool.{Bool, true, not, _&&_, _||_}
