@@ -180,14 +180,31 @@ fn pieces(random: &mut Random, from: &[&[u8]]) -> Vec<u8> {
     (0..1 + random.below(7)).flat_map(|_| random.pick(from).to_vec()).collect()
 }
 
+/// How a declaration begins: most often rightly, also with another version or none.
+const DECLARED: [&str; 10] = [
+    "<?xml version='1.0'",
+    "<?xml version='1.0'",
+    "<?xml version='1.0'",
+    "<?xml version='1.0'",
+    "<?xml version='2.0'",
+    "<?xml version='1.'",
+    "<?xml version='1.0a'",
+    "<?xml encoding='UTF-8'",
+    "<?xml standalone='yes'",
+    "<?xml ?>",
+];
+
 /// A declaration before a document that lacks everything, which shows that it was reached.
 fn prolog(random: &mut Random) -> Vec<u8> {
     let mut text = Vec::new();
     if random.one_in(3) {
         text.extend(random.pick(&[&b"\xEF\xBB\xBF"[..], b"\xEF\xBB\xBF", b"\xEF\xBB", b"\xEF", b"\xBB\xBF"]));
     }
+    if random.one_in(8) {
+        text.extend(random.pick(&[&b" "[..], b"\n", b"\t\r\n"]));
+    }
     if !random.one_in(4) {
-        text.extend(b"<?xml version='1.0'");
+        text.extend(random.pick(&DECLARED).as_bytes());
     }
     text.extend(pieces(random, &PROLOG.map(str::as_bytes)));
     if random.one_in(2) {
