@@ -64,6 +64,9 @@ module _ (test : ℕ → Bool) (s : List ℕ) (end : ℕ) where
       pub some-more : test k ≡ false → (r : Reach) → attributeAt s k ≡ r → further r (λ next. someAttribute test s next end) ≡ someAttribute test s at end
       some-more e r told = sym (some-step r told ∙ (rw (lt-ltb k end h, e)))
 
+      pub some-on : (next : ℕ) → attributeAt s k ≡ To next → someAttribute test s at end ≡ (test k || someAttribute test s next end)
+      some-on next told = some-step (To next) told ∙ (rw (lt-ltb k end h))
+
 -- ---- letters
 
 module _ (c : ℕ) (s : List ℕ) (at : ℕ) where

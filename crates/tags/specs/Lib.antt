@@ -1,3 +1,4 @@
 pub mod Names
 pub mod Attributes
 pub mod Tags
+pub mod Twice

@@ -2,6 +2,7 @@
 mod currency;
 mod ends;
 mod turns;
+mod twice;
 
 ghost use mathlib.Core.Path.{_≡_};
 ghost use Prim.Native.Nat.{_+_};
@@ -130,15 +131,20 @@ pub fn attribute(s: &[u8], at: usize) -> Reach
     }
 }
 
+// How many attributes are held against those before them by walking these again. Most tags have no more.
+const FEW: usize = 4;
+
 // The attributes of a tag: the place at which what ends the tag has to stand.
 pub fn attributes(s: &[u8], from: usize) -> Reach
     ensures { λ r. ⌜ r ≡ attributesAt (now (s .entry)) from ⌝ }
 {
     let mut i = from;
-    loop {
+    let mut n = 0;
+    while n < FEW {
         match turns::attribute_turn(s, from, i) {
-            Turn::On(n) => {
-                i = n;
+            Turn::On(next) => {
+                i = next;
+                n += 1;
             }
             Turn::Ends(e) => {
                 return Reach::To(e);
@@ -148,6 +154,7 @@ pub fn attributes(s: &[u8], from: usize) -> Reach
             }
         }
     }
+    twice::many(s, from)
 }
 
 // Whether one of the attributes between two places says that the amount is in euros.
