@@ -1,4 +1,5 @@
 pub mod Texts
+pub mod TextCuts
 pub mod TextRuns
 pub mod Answered
 pub mod Computing

@@ -53,10 +53,10 @@ kinds-told text [] = refl
 kinds-told text (d ∷ ds) = ap₂ (λ (k : ℕ) (ks : List ℕ). k ∷ ks) (header-told text (placesIn d)) (kinds-told text ds)
 
 module _ (text sheet : List ℕ) (how : ReadAs theReader text sheet) where
-  made : WasMade text (how .space)
+  pub made : WasMade text (how .space)
   made = was-made text (how .space) (how .was)
 
-  meant-is : meant text ≡ bulksIn text (made .forest)
+  pub meant-is : meant text ≡ bulksIn text (made .forest)
   unfolding documents
   meant-is =
       ap (λ (p : Parsed). map (λ (d : Forest). bulkIn text d) (documentsBy p)) (made .was) ∙ roots-bulks text (made .forest)

@@ -1,4 +1,5 @@
 pub mod Texts
+pub mod TextCuts
 pub mod TextRuns
 pub mod ReadCode
 pub mod WrongReaders
