@@ -4,8 +4,10 @@ use mathlib.Core.Bool.{true, false}
 use mathlib.Core.List.{List, [], _∷_, _++_}
 use lib.ListN.{replicate}
 use Prim.Native.Nat.{ℕ}
+use Prim.Native.String.{String}
 use Rattle.wire.specs.Field.{text}
 use Rattle.letters.specs.Characters.{widthOf, widthAt}
+use Rattle.paths.specs.Table.{receiverPath, returnReceiverPath}
 use Rattle.fields.proofs.Computing.{fieldsCompute}
 use Rattle.documents.specs.Spelling.{hexadecimally, hexadecimalIn, spelledBy, numberIn, longBy, spelledIn, spelled, asItStands, byNumbers, byNames}
 use Rattle.documents.specs.Markup.{writtenTo}
@@ -86,6 +88,13 @@ too-fine-too = refl
 blanks : ℕ → List ℕ
 blanks n = replicate n 32
 
+-- the element of a receiver, by its name in the table
+opening : String → List ℕ
+opening name = text "<" ++ text name ++ text ">"
+
+closing : String → List ℕ
+closing name = text "</" ++ text name ++ text ">"
+
 paid : documentsOf true byNames (payments ∷ [])
     ≡ text "<?xml version=\"1.0\" encoding=\"UTF-8\"?><Document><FIToFICstmrCdtTrf><GrpHdr>"
     ++ text "<MsgId>B&amp;1" ++ blanks 32 ++ text "</MsgId><NbOfTxs>1</NbOfTxs>"
@@ -93,9 +102,9 @@ paid : documentsOf true byNames (payments ∷ [])
     ++ text "<SttlmInf><SttlmMtd>CLRG</SttlmMtd><ClrSys><Prtry>EKS</Prtry></ClrSys></SttlmInf>"
     ++ text "<InstgAgt><FinInstnId><BICFI>AAAALV22</BICFI></FinInstnId></InstgAgt></GrpHdr>"
     ++ text "<CdtTrfTxInf><PmtId><TxId>P1" ++ blanks 33 ++ text "</TxId></PmtId>"
-    ++ text "<CdtrAgt><FinInstnId><BICFI>BBBBLV22   </BICFI></FinInstnId></CdtrAgt>"
+    ++ opening receiverPath ++ text "<FinInstnId><BICFI>BBBBLV22   </BICFI></FinInstnId>" ++ closing receiverPath
     ++ text "<IntrBkSttlmAmt Ccy=\"EUR\">2.50</IntrBkSttlmAmt></CdtTrfTxInf></FIToFICstmrCdtTrf></Document>"
-unfolding computes payments blanks
+unfolding computes payments blanks opening closing
 paid = refl
 
 returned : documentsOf false asItStands (returns ∷ [])
@@ -104,9 +113,9 @@ returned : documentsOf false asItStands (returns ∷ [])
     ++ text "<SttlmInf><SttlmMtd>COVE</SttlmMtd><ClrSys><Prtry>OTHER</Prtry></ClrSys></SttlmInf>"
     ++ text "<InstgAgt><FinInstnId><BICFI>AAAALV22</BICFI></FinInstnId></InstgAgt><InstdAgt></InstdAgt></GrpHdr>"
     ++ text "<TxInf><RtrId>R1" ++ blanks 33 ++ text "</RtrId>"
-    ++ text "<OrgnlTxRef><CdtrAgt><FinInstnId><BICFI>BBBBLV22XXX</BICFI></FinInstnId></CdtrAgt></OrgnlTxRef>"
+    ++ text "<OrgnlTxRef>" ++ opening returnReceiverPath ++ text "<FinInstnId><BICFI>BBBBLV22XXX</BICFI></FinInstnId>" ++ closing returnReceiverPath ++ text "</OrgnlTxRef>"
     ++ text "<RtrdIntrBkSttlmAmt Ccy=\"EUR\">1.99</RtrdIntrBkSttlmAmt><OrgnlIntrBkSttlmAmt Ccy=\"EUR\">2.50</OrgnlIntrBkSttlmAmt>"
     ++ text "<RtrRsnInf><Rsn><Cd>AC01</Cd></Rsn></RtrRsnInf><OrgnlGrpInf><OrgnlMsgNmId>pacs.008.001.08</OrgnlMsgNmId></OrgnlGrpInf>"
     ++ text "</TxInf></PmtRtr></Document>"
-unfolding computes returns blanks
+unfolding computes returns blanks opening closing
 returned = refl

@@ -8,6 +8,7 @@ use Rattle.wire.specs.Field.{text}
 use Rattle.sheet.specs.Sheet.{Bulk, paymentKind, kindOf, bulkIdentifierOf, senderOf, statedNumberOf, statedSumOf, valueDateOf, marksOf, identifierOf, receiverOf, amountOf, originalOf, reasonOf, nameOf}
 use Rattle.meanings.specs.Written.{decimalText, dateText}
 use Rattle.paths.specs.Roles as roles
+use Rattle.paths.specs.Table.{receiverPath, returnReceiverPath}
 use Rattle.documents.specs.Spelling.{Spelling}
 use Rattle.documents.specs.Amounts.{euroText}
 use Rattle.documents.specs.Markup.{Markup, nothing, field, group, writtenTo}
@@ -56,21 +57,21 @@ headerOf sum header =
 
 -- ---- the messages
 
--- the receiver and what follows; its 11 bytes are written whole, so that eight characters and three spaces come back as they were
-abbrev pub receiverThen : List ℕ → Markup → Markup
-receiverThen message rest = group roles.receiverAgent (text "CdtrAgt") (institution roles.receiverInstitution roles.receiver (receiverOf message)) rest
+-- the receiver, in an element whose name goes by the kind, and what follows; its 11 bytes are written whole, so that eight characters and three spaces come back as they were
+abbrev pub receiverThen : String → List ℕ → Markup → Markup
+receiverThen path message rest = group roles.receiverAgent (text path) (institution roles.receiverInstitution roles.receiver (receiverOf message)) rest
 
 abbrev pub paymentOf : List ℕ → Markup
 paymentOf message =
     group roles.paymentIdentification (text "PmtId") (field roles.identifier (text "TxId") (identifierOf message) nothing)
-    (receiverThen message
+    (receiverThen receiverPath message
     (field roles.amount (text "IntrBkSttlmAmt") (euroText (amountOf message))
     nothing))
 
 abbrev pub returnOf : List ℕ → Markup
 returnOf message =
     field roles.identifier (text "RtrId") (identifierOf message)
-    (group roles.originalReference (text "OrgnlTxRef") (receiverThen message nothing)
+    (group roles.originalReference (text "OrgnlTxRef") (receiverThen returnReceiverPath message nothing)
     (field roles.amount (text "RtrdIntrBkSttlmAmt") (euroText (amountOf message))
     (field roles.originalAmount (text "OrgnlIntrBkSttlmAmt") (euroText (originalOf message))
     (group roles.reasonInformation (text "RtrRsnInf") (group roles.reasonGroup (text "Rsn") (field roles.reason (text "Cd") (reasonOf message) nothing) nothing)
