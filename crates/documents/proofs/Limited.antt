@@ -13,7 +13,7 @@ use Rattle.wire.proofs.Numbers.{written-read}
 use Rattle.sheet.specs.Sheet.{messageWidth, paymentKind, marksOf}
 use Rattle.prose.specs.Prose.{saidAt}
 use Rattle.meanings.specs.Meanings.{decimal, isNumber, numberMeant, cents, isAmount, amountMeant, isDate, dateNumber, dateMeant, meantIf}
-use Rattle.meanings.proofs.Forms.{amount-small}
+use Rattle.meanings.proofs.Forms.{number-small, amount-small, date-small}
 use Rattle.paths.specs.Roles as roles
 use Rattle.fields.specs.Fields.{fits, meantBytes, fieldBytes, isClearing, isSystem}
 use Rattle.records.specs.Records.{Places, there, saidOf, headerOf, messageOf}
@@ -26,7 +26,7 @@ use Rattle.reading.specs.Meaning.{placesIn}
 use Rattle.documents.specs.Amounts.{carriedAmount}
 use Rattle.documents.specs.Carried.{characters, CarriedHeader, NoOriginal, CarriedMessage}
 use Rattle.documents.proofs.Fields.{no-amount, no-reason, no-name}
-use Rattle.documents.proofs.Limits.{number-limit, amount-limit, date-limit}
+use Rattle.documents.proofs.Limits.{amount-limit}
 use Rattle.documents.proofs.Sayings.{none-left, said-characters}
 use Rattle.documents.proofs.Fills.{filled-characters, receiver-characters}
 use Rattle.documents.proofs.Standing.{marks-stand, date-stands, sum-stands, number-stands, name-stands, reason-stands, original-stands, amount-stands}
@@ -39,14 +39,14 @@ number-meant : (t : List ℕ) → numberOf (meantBytes 8 (numberMeant t)) < 10 ^
 number-meant t = by-test (isNumber t) refl
   where
     by-test : (b : Bool) → isNumber t ≡ b → numberOf (meantBytes 8 (meantIf b (decimal t))) < 10 ^ 15
-    by-test true e = let limit = number-limit t e in rw (written-read 8 (decimal t)) (omega arith)
+    by-test true e = let limit = number-small t e in rw (written-read 8 (decimal t)) (omega arith)
     by-test false e = rw (written-read 8 0) (omega arith)
 
 date-meant : (t : List ℕ) → numberOf (meantBytes 4 (dateMeant t)) < 10 ^ 8
 date-meant t = by-test (isDate t) refl
   where
     by-test : (b : Bool) → isDate t ≡ b → numberOf (meantBytes 4 (meantIf b (dateNumber t))) < 10 ^ 8
-    by-test true e = let limit = date-limit t e in rw (written-read 4 (dateNumber t)) (omega arith)
+    by-test true e = let limit = date-small t e in rw (written-read 4 (dateNumber t)) (omega arith)
     by-test false e = rw (written-read 4 0) (omega arith)
 
 amount-meant : (t : List ℕ) → carriedAmount (numberOf (meantBytes 8 (amountMeant t))) ≡ true

@@ -1,43 +1,18 @@
--- No text means a number, an amount or a date that is not carried. Assumes nothing.
+-- No text means an amount that is not carried. Assumes nothing.
 use mathlib.Core.Path.{_≡_, _∙_}
 use mathlib.Core.Bool.{true, _&&_, _||_, or-true, and-eq-true-iff}
 use mathlib.Core.List.{List, [], _∷_, _++_}
 use Prim.Native.Nat.{ℕ, _+_, _*_, _%_, _^_, _≤_, _<_}
-use native.Mathlib.Nat.{pow-le-pow-right, lt-of-lt-of-le}
 use native.Mathlib.Omega.{arith}
-use lib.Dec.{eqb, ltb, leb, lit<}
-use lib.ListN.{length, take, replicate, length-append}
+use lib.Dec.{eqb, ltb, leb}
+use lib.ListN.{length, take, replicate}
 use borrow.Author.Tests.{lt-ltb, eq-eqb, leb-true}
-use Rattle.wire.specs.Field.{part}
-use Rattle.wire.proofs.Texts.{part-short}
 use Rattle.letters.specs.Places.{byteAt, run}
 use Rattle.letters.specs.References.{digitOf}
-use Rattle.meanings.specs.Meanings.{digit, digits, decimal, isNumber, wholes, parts, cents, amountDigits, isAmount, dateDigits, isDate, dateNumber}
-use Rattle.meanings.proofs.Decimals.{digit-counts, decimal-snoc, decimal-none, decimal-below, run-digits}
+use Rattle.meanings.specs.Meanings.{digit, digits, decimal, wholes, parts, cents, amountDigits, isAmount}
+use Rattle.meanings.proofs.Decimals.{digit-counts, decimal-snoc, decimal-none, run-digits}
+use Rattle.meanings.proofs.Forms.{decimal-small}
 use Rattle.documents.specs.Amounts.{carriedAmount}
-
--- so many digits write a number below a power of ten
-below : (t : List ℕ) (k : ℕ) → digits t ≡ true → length t ≤ k → decimal t < 10 ^ k
-below t k e h = lt-of-lt-of-le (decimal-below t e) (pow-le-pow-right (lit< tt) h)
-
-pub number-limit : (t : List ℕ) → isNumber t ≡ true → decimal t < 10 ^ 15
-unfolding isNumber
-number-limit t e =
-    let a = and-eq-true-iff (digits t && leb 1 (length t)) (leb (length t) 15) .0 e in
-    let b = and-eq-true-iff (digits t) (leb 1 (length t)) .0 (a .0) in
-    below t 15 (b .0) (leb-true (length t) 15 (a .1))
-
-pub date-limit : (t : List ℕ) → isDate t ≡ true → dateNumber t < 10 ^ 8
-unfolding isDate
-date-limit t e =
-    let a = and-eq-true-iff (eqb (length t) 10 && digits (dateDigits t) && eqb (byteAt t 4) 45) (eqb (byteAt t 7) 45) .0 e in
-    let b = and-eq-true-iff (eqb (length t) 10 && digits (dateDigits t)) (eqb (byteAt t 4) 45) .0 (a .0) in
-    let c = and-eq-true-iff (eqb (length t) 10) (digits (dateDigits t)) .0 (b .0) in
-    let long : length (dateDigits t) ≡ length (part t 0 4) + (length (part t 5 2) + length (part t 8 2)) =
-    length-append (part t 0 4) (part t 5 2 ++ part t 8 2) ∙ (rw (length-append (part t 5 2) (part t 8 2))) in
-    below (dateDigits t) 8 (c .1) (omega (arith, part-short t 0 4, part-short t 5 2, part-short t 8 2))
-
--- ---- amounts
 
 zero-counts : digitOf 48 ≡ 0
 zero-counts = digit-counts 48 (omega arith) (omega arith)
@@ -61,13 +36,13 @@ by-parts w [] dw dp few short =
     let none : decimal (48 ∷ 48 ∷ []) ≡ 0 = decimal-snoc (48 ∷ []) 48 ∙ (rw (decimal-snoc [] 48, decimal-none, zero-counts)) in
     wholly (centsOf w []) (rw none (omega arith))
 by-parts w (x ∷ []) dw dp few short =
-    let one = below (x ∷ []) 1 dp (omega arith) in
-    let front = below w 17 dw (omega arith) in
+    let one = decimal-small (x ∷ []) 1 dp (omega arith) in
+    let front = decimal-small w 17 dw (omega arith) in
     let behind : decimal (x ∷ 48 ∷ []) ≡ decimal (x ∷ []) * 10 = decimal-snoc (x ∷ []) 48 ∙ (rw zero-counts (omega arith)) in
     to-tenths (centsOf w (x ∷ [])) (rw behind (omega arith)) (rw behind (omega arith))
 by-parts w (x ∷ y ∷ []) dw dp few short =
-    let two = below (x ∷ y ∷ []) 2 dp (omega arith) in
-    let front = below w 16 dw (omega arith) in
+    let two = decimal-small (x ∷ y ∷ []) 2 dp (omega arith) in
+    let front = decimal-small w 16 dw (omega arith) in
     to-cents (centsOf w (x ∷ y ∷ [])) (omega arith)
 by-parts w (x ∷ y ∷ z ∷ p) dw dp few short = absurd (omega arith)
 

@@ -98,7 +98,7 @@ module _ (s : List ℕ) where
   there-at p h = rw (ne-eqb p 0 (λ z. omega arith))
 
   other-role : (role k : ℕ) → roles.isField role ≡ false → roles.isField k ≡ true → eqb role k ≡ false
-  other-role role k group' field' = ne-eqb role k (λ z. false≢true (sym group' ∙ (rw z field')))
+  other-role role k holds says = ne-eqb role k (λ z. false≢true (sym holds ∙ (rw z says)))
 
   said-in : (k : ℕ) → roles.isField k ≡ true → (w : Markup) (f : Forest) → Means s w f → (p : ℕ) (t : List ℕ) → saidIf p ≡ t → saidIf (placeIn k f p) ≡ textIn k w t
   unfolding Means placeIn textIn

@@ -34,9 +34,9 @@ module _ (base : ℕ) (s : List ℕ) (at : ℕ) (ds ys : List ℕ) (are : all (d
   numbered-here =
       let ends : runEnd (digitIn base) s at ≡ at + length ds = run-here (digitIn base) s at ds 59 ys are stop e in
       let there : between s at (runEnd (digitIn base) s at) ≡ ds = between-here (digitIn base) s at ds 59 ys are stop e in
-      let there' : between s at (at + length ds) ≡ ds = rw ends at there in
+      let digits-there : between s at (at + length ds) ≡ ds = rw ends at there in
       let semicolon : byteAt s (at + length ds) ≡ 59 = byte-here s (at + length ds) 59 ys (skip-here s at ds (59 ∷ ys) e) in
-      rw (ends, lt-ltb at (at + length ds) (omega arith), semicolon, there', known)
+      rw (ends, lt-ltb at (at + length ds) (omega arith), semicolon, digits-there, known)
 
 -- ---- which reference it is
 

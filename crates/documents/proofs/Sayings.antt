@@ -17,11 +17,12 @@ use Rattle.letters.proofs.References.{reference-character}
 use Rattle.prose.specs.Prose.{pieceAt, plainPiece, lineEnd, itselfOf, otherOf, saying, saidBy, saidAt, sectionStart, sectionEnd}
 use Rattle.prose.specs.declared.Piece.{Piece}
 use Rattle.prose.specs.declared.Piece.the-variants.{Itself, Other, Turns, Silent}
+use Rattle.meanings.proofs.Forms.{number-small, date-small}
 use Rattle.documents.specs.Carried.{charactersBy, characters}
 use Rattle.documents.specs.NothingElse.{NothingElse}
 use Rattle.documents.proofs.Firsts.{First, short, long, first-of}
 use Rattle.documents.proofs.Wides.{Wide, one-more, single-wide, stands-wide, encoded-wide}
-use Rattle.documents.proofs.Limits.{number-limit, amount-limit, date-limit}
+use Rattle.documents.proofs.Limits.{amount-limit}
 
 -- ---- the bound on their number does not matter
 
@@ -121,4 +122,4 @@ unfolding saidAt
 said-characters s at = enough (suc (length s)) (length (saidAt s at)) (saidAt s at) (said-by s (suc (length s)) false at) (omega arith)
 
 pub nothing-else : NothingElse
-nothing-else = record { texts = said-characters; numbers = number-limit; amounts = amount-limit; dates = date-limit }
+nothing-else = record { texts = said-characters; numbers = number-small; amounts = amount-limit; dates = date-small }

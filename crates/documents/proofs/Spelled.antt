@@ -70,17 +70,17 @@ module _ (s : List ℕ) (at : ℕ) where
       (stands s at (text "&#x")) (stands s at (text "&#")) (numberedAt 16 s (at + 3)) (numberedAt 10 s (at + 2))
       (numberedAt 16 (drop at s) 3) (numberedAt 10 (drop at s) 2) (number-moved 16 3) (number-moved 10 2)
     where
-      by-tests : (a b c d e f g : Bool) (x y x' y' : Reference) → x ≡ moved at x' → y ≡ moved at y'
+      by-tests : (a b c d e f g : Bool) (x y u v : Reference) → x ≡ moved at u → y ≡ moved at v
           → cond a (Stands 60 (at + 4)) (cond b (Stands 62 (at + 4)) (cond c (Stands 38 (at + 5)) (cond d (Stands 39 (at + 6)) (cond e (Stands 34 (at + 6)) (cond f x (cond g y Nothing))))))
-          ≡ moved at (cond a (Stands 60 4) (cond b (Stands 62 4) (cond c (Stands 38 5) (cond d (Stands 39 6) (cond e (Stands 34 6) (cond f x' (cond g y' Nothing)))))))
-      by-tests true b c d e f g x y x' y' p q = refl
-      by-tests false true c d e f g x y x' y' p q = refl
-      by-tests false false true d e f g x y x' y' p q = refl
-      by-tests false false false true e f g x y x' y' p q = refl
-      by-tests false false false false true f g x y x' y' p q = refl
-      by-tests false false false false false true g x y x' y' p q = p
-      by-tests false false false false false false true x y x' y' p q = q
-      by-tests false false false false false false false x y x' y' p q = refl
+          ≡ moved at (cond a (Stands 60 4) (cond b (Stands 62 4) (cond c (Stands 38 5) (cond d (Stands 39 6) (cond e (Stands 34 6) (cond f u (cond g v Nothing)))))))
+      by-tests true b c d e f g x y u v p q = refl
+      by-tests false true c d e f g x y u v p q = refl
+      by-tests false false true d e f g x y u v p q = refl
+      by-tests false false false true e f g x y u v p q = refl
+      by-tests false false false false true f g x y u v p q = refl
+      by-tests false false false false false true g x y u v p q = p
+      by-tests false false false false false false true x y u v p q = q
+      by-tests false false false false false false false x y u v p q = refl
 
 -- ---- a spelled character is one that may stand as it is, or a reference to it
 

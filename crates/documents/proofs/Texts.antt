@@ -166,12 +166,12 @@ module _ (how : Spelling) (n : ℕ) (s ys : List ℕ) (rest : Reads how n s ys) 
   first-read t (short a more is one behind) e = rw is (short-read a more one behind (rw is at e))
   first-read t (long a bs more is highs wide numbered behind) e =
       let whole = a ∷ (bs ++ more) in
-      let e' : drop at s ≡ spelledIn how (suc n) whole ++ (60 ∷ 47 ∷ ys) = rw is at e in
+      let whole-here : drop at s ≡ spelledIn how (suc n) whole ++ (60 ∷ 47 ∷ ys) = rw is at e in
       let word = longBy (how whole) (a ∷ bs) in
       let left = spelledIn how n more ++ (60 ∷ 47 ∷ ys) in
       let spelt = long-spelled how n a bs more highs (wide whole 0 more refl) in
-      let stands-here = here whole (a ∷ bs) word more spelt e' behind in
-      rw is (both-read whole (a ∷ bs) word more spelt e' behind (long-spelt s at a bs left highs numbered wide (how whole) stands-here))
+      let stands-here = here whole (a ∷ bs) word more spelt whole-here behind in
+      rw is (both-read whole (a ∷ bs) word more spelt whole-here behind (long-spelt s at a bs left highs numbered wide (how whole) stands-here))
 
 module _ (how : Spelling) (s ys : List ℕ) where
   none-read : (at : ℕ) → drop at s ≡ 60 ∷ 47 ∷ ys → TextRead s at [] []
