@@ -7,9 +7,12 @@ use Prim.Native.Nat.{ℕ}
 use Prim.Native.String.{String}
 use Rattle.wire.specs.Field.{text}
 use Rattle.letters.specs.Characters.{widthOf, widthAt}
+use Rattle.wording.specs.Wording.{kept}
+use Rattle.paths.specs.Roles as roles
 use Rattle.paths.specs.Table.{receiverPath, returnReceiverPath}
 use Rattle.fields.proofs.Computing.{fieldsCompute}
 use Rattle.documents.specs.Spelling.{hexadecimally, hexadecimalIn, spelledBy, numberIn, longBy, spelledIn, spelled, asItStands, byNumbers, byNames}
+use Rattle.documents.specs.Brevity.{shortReceiver, shortened, asBanksWrite, inFull}
 use Rattle.documents.specs.Markup.{writtenTo}
 use Rattle.documents.specs.Amounts.{carriedAmount, tenthsText, euroText}
 use Rattle.documents.specs.Carried.{charactersBy, characters}
@@ -17,7 +20,7 @@ use Rattle.documents.specs.Documents.{eachOf, documents, documentsOf}
 use Rattle.documents.proofs.Instances.{payments, returns}
 
 unfoldable computes : Unit {0}
-unfolding fieldsCompute widthOf widthAt hexadecimalIn spelledBy numberIn longBy spelledIn spelled writtenTo tenthsText euroText charactersBy eachOf documents documentsOf
+unfolding fieldsCompute widthOf widthAt hexadecimalIn spelledBy numberIn longBy spelledIn spelled kept shortReceiver shortened writtenTo tenthsText euroText charactersBy eachOf documents documentsOf
 computes = tt
 
 -- ---- spellings
@@ -50,6 +53,32 @@ longest = refl
 unchanged : spelled byNames (195 ∷ 164 ∷ 38 ∷ []) ≡ 195 ∷ 164 ∷ text "&amp;"
 unfolding computes
 unchanged = refl
+
+-- ---- short texts
+
+blanks : ℕ → List ℕ
+blanks n = replicate n 32
+
+trimmed-end : shortened roles.identifier (text " P 1" ++ blanks 31) ≡ text " P 1"
+unfolding computes blanks
+trimmed-end = refl
+
+blank-all : shortened roles.originalName (blanks 15) ≡ []
+unfolding computes blanks
+blank-all = refl
+
+head-office : shortened roles.receiver (text "BBBBLV22XXX") ≡ text "BBBBLV22"
+unfolding computes
+head-office = refl
+
+-- by its eight bytes alone it would be another
+no-office : shortened roles.receiver (text "BBBBLV22   ") ≡ text "BBBBLV22   "
+unfolding computes
+no-office = refl
+
+seven : shortened roles.receiver (text "BBBBLV2    ") ≡ text "BBBBLV2"
+unfolding computes
+seven = refl
 
 -- ---- what can be carried
 
@@ -85,9 +114,6 @@ too-fine-too = refl
 
 -- ---- documents
 
-blanks : ℕ → List ℕ
-blanks n = replicate n 32
-
 -- the element of a receiver, by its name in the table
 opening : String → List ℕ
 opening name = text "<" ++ text name ++ text ">"
@@ -95,7 +121,8 @@ opening name = text "<" ++ text name ++ text ">"
 closing : String → List ℕ
 closing name = text "</" ++ text name ++ text ">"
 
-paid : documentsOf true byNames (payments ∷ [])
+-- in full
+paid : documentsOf (record { declared = true; spelling = byNames; brevity = inFull }) (payments ∷ [])
     ≡ text "<?xml version=\"1.0\" encoding=\"UTF-8\"?><Document><FIToFICstmrCdtTrf><GrpHdr>"
     ++ text "<MsgId>B&amp;1" ++ blanks 32 ++ text "</MsgId><NbOfTxs>1</NbOfTxs>"
     ++ text "<TtlIntrBkSttlmAmt Ccy=\"EUR\">2.50</TtlIntrBkSttlmAmt><IntrBkSttlmDt>2024-02-29</IntrBkSttlmDt>"
@@ -107,15 +134,16 @@ paid : documentsOf true byNames (payments ∷ [])
 unfolding computes payments blanks opening closing
 paid = refl
 
-returned : documentsOf false asItStands (returns ∷ [])
-    ≡ text "<Document><PmtRtr><GrpHdr><MsgId>B2" ++ blanks 33 ++ text "</MsgId><NbOfTxs>1</NbOfTxs>"
+-- short, the receiver as a head office
+returned : documentsOf (record { declared = false; spelling = asItStands; brevity = asBanksWrite }) (returns ∷ [])
+    ≡ text "<Document><PmtRtr><GrpHdr><MsgId>B2</MsgId><NbOfTxs>1</NbOfTxs>"
     ++ text "<TtlRtrdIntrBkSttlmAmt Ccy=\"EUR\">1.99</TtlRtrdIntrBkSttlmAmt><IntrBkSttlmDt>2024-03-01</IntrBkSttlmDt>"
     ++ text "<SttlmInf><SttlmMtd>COVE</SttlmMtd><ClrSys><Prtry>OTHER</Prtry></ClrSys></SttlmInf>"
     ++ text "<InstgAgt><FinInstnId><BICFI>AAAALV22</BICFI></FinInstnId></InstgAgt><InstdAgt></InstdAgt></GrpHdr>"
-    ++ text "<TxInf><RtrId>R1" ++ blanks 33 ++ text "</RtrId>"
-    ++ text "<OrgnlTxRef>" ++ opening returnReceiverPath ++ text "<FinInstnId><BICFI>BBBBLV22XXX</BICFI></FinInstnId>" ++ closing returnReceiverPath ++ text "</OrgnlTxRef>"
+    ++ text "<TxInf><RtrId>R1</RtrId>"
+    ++ text "<OrgnlTxRef>" ++ opening returnReceiverPath ++ text "<FinInstnId><BICFI>BBBBLV22</BICFI></FinInstnId>" ++ closing returnReceiverPath ++ text "</OrgnlTxRef>"
     ++ text "<RtrdIntrBkSttlmAmt Ccy=\"EUR\">1.99</RtrdIntrBkSttlmAmt><OrgnlIntrBkSttlmAmt Ccy=\"EUR\">2.50</OrgnlIntrBkSttlmAmt>"
     ++ text "<RtrRsnInf><Rsn><Cd>AC01</Cd></Rsn></RtrRsnInf><OrgnlGrpInf><OrgnlMsgNmId>pacs.008.001.08</OrgnlMsgNmId></OrgnlGrpInf>"
     ++ text "</TxInf></PmtRtr></Document>"
-unfolding computes returns blanks opening closing
+unfolding computes returns opening closing
 returned = refl

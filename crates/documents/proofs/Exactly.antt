@@ -14,8 +14,9 @@ use Rattle.reading.specs.Reading.{reads, numberOf, lengthOf}
 use Rattle.reading.specs.declared.Reading.the-variants.{Made}
 use Rattle.reading.proofs.Made.{WasMade, was-made, front-left}
 use Rattle.documents.specs.Spelling.{asItStands}
+use Rattle.documents.specs.Brevity.{inFull}
 use Rattle.documents.specs.Carried.{Carried}
-use Rattle.documents.specs.Documents.{documentsOf}
+use Rattle.documents.specs.Documents.{Manner, documentsOf}
 use Rattle.documents.specs.ExactlyThese.{OnlyCarried, ReadFrom, OfCarried, ExactlyThese}
 use Rattle.documents.proofs.ReadBack.{reads-back}
 use Rattle.documents.proofs.Every.{bulks-carried}
@@ -42,6 +43,9 @@ only-carried s space end f n bytes is made =
 
 -- ---- both ways
 
+abbrev plainest : Manner
+plainest = record { declared = false; spelling = asItStands; brevity = inFull }
+
 from-text : (sheet : List ℕ) → ReadFrom sheet → OfCarried sheet
 from-text sheet r =
     let w = was (r .text) (r .space) (length sheet) (r .bytes) (r .answer) in
@@ -59,11 +63,11 @@ to-text sheet o =
     let made = sheetBytes bulks in
     let space : List ℕ = replicate (length made) 0 in
     let room : length space ≡ length made = length-replicate (length made) 0 in
-    let back = reads-back false asItStands bulks space (o .carried) (omega arith) in
+    let back = reads-back plainest bulks space (o .carried) (omega arith) in
     let front : take (length made) (sets space 0 made) ≡ made = ap (take (length made)) (sets-eq made space 0 (omega arith)) ∙ take-at made _ (length made) refl in
     rw (← (o .is)) (record {
-      text = documentsOf false asItStands bulks;
-      bytes = all-bytes (documentsOf false asItStands bulks) (documents-bytes asItStands bulks (o .carried .each));
+      text = documentsOf plainest bulks;
+      bytes = all-bytes (documentsOf plainest bulks) (documents-bytes asItStands inFull bulks (o .carried .each));
       space = space;
       answer = ap (λ o. o .answer) back;
       left = ap (λ o. take (length made) (o .sheet)) back ∙ front;

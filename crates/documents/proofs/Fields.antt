@@ -1,12 +1,12 @@
--- The text that is written of a field is of its form, and becomes the field's own bytes. Assumes nothing.
+-- The text that is written of a number is of its form, and becomes the field's own bytes. Assumes nothing.
 use mathlib.Core.Path.{_≡_, refl, sym, ap, _∙_}
 use mathlib.Core.Bool.{Bool, true, false, cond, _||_, or-true, and-eq-true-iff}
 use mathlib.Core.List.{List, [], _∷_, _++_, append-nil}
 use Prim.Native.Nat.{ℕ, suc, _+_, _/_, _%_, _^_, _≤_, _<_}
 use native.Mathlib.Omega.{arith}
-use lib.Dec.{eqb, leb, ltb}
+use lib.Dec.{eqb, ltb}
 use lib.ListN.{length, take, drop, replicate}
-use lib.Seq.{take-at, take-add, drop-drop}
+use lib.Seq.{take-add, drop-drop}
 use borrow.Author.Tests.{le-leb}
 use Rattle.wire.specs.Field.{Bytes, part, bytesOf, numberAt}
 use Rattle.wire.proofs.Numbers.{read-written}
@@ -14,7 +14,7 @@ use Rattle.wire.proofs.Texts.{part-bytes, part-length}
 use Rattle.letters.specs.Characters.{single}
 use Rattle.letters.proofs.Characters.{width-first}
 use Rattle.decimals.specs.Decimal.{digitsOf}
-use Rattle.meanings.specs.Meanings.{digits, isNumber, isDate, isAmount, amountMeant, filled, receiver}
+use Rattle.meanings.specs.Meanings.{digits, isNumber, isDate, isAmount, amountMeant}
 use Rattle.meanings.specs.Written.{decimalText, amountText, dateText}
 use Rattle.meanings.specs.declared.Meant.the-variants.{Is, Nothing}
 use Rattle.meanings.proofs.Decimals.{digits-both, digit-bounds}
@@ -124,38 +124,6 @@ module _ (n : ℕ) (h : carriedAmount n ≡ true) (small : n < 2 ^ 64) where
   pub original-carries : Carries roles.originalAmount (euroText n) (bytesOf 8 n)
   unfolding fits fieldBytes
   original-carries = record { carried = amount-characters n; form = amount-form; back = amount-back }
-
--- texts, whole with the spaces at their end
-module _ (t : List ℕ) (carried : characters t ≡ true) where
-  filled-whole : (w : ℕ) → length t ≡ w → filled w t ≡ t
-  filled-whole w e = take-at t (replicate w 32) w e
-
-  as-long : (w : ℕ) → length t ≡ w → leb (length t) w ≡ true
-  as-long w e = rw e (le-leb w w (omega arith))
-
-  pub bulk-identifier-carries : length t ≡ 35 → Carries roles.bulkIdentifier t t
-  unfolding fits fieldBytes
-  bulk-identifier-carries e = record { carried = carried; form = as-long 35 e; back = filled-whole 35 e }
-
-  pub identifier-carries : length t ≡ 35 → Carries roles.identifier t t
-  unfolding fits fieldBytes
-  identifier-carries e = record { carried = carried; form = as-long 35 e; back = filled-whole 35 e }
-
-  pub sender-carries : length t ≡ 8 → Carries roles.sender t t
-  unfolding fits fieldBytes
-  sender-carries e = record { carried = carried; form = as-long 8 e; back = filled-whole 8 e }
-
-  pub receiver-carries : length t ≡ 11 → Carries roles.receiver t t
-  unfolding fits fieldBytes receiver
-  receiver-carries e = record { carried = carried; form = as-long 11 e; back = (rw e) ∙ filled-whole 11 e }
-
-  pub reason-carries : length t ≡ 4 → Carries roles.reason t t
-  unfolding fits fieldBytes
-  reason-carries e = record { carried = carried; form = as-long 4 e; back = filled-whole 4 e }
-
-  pub name-carries : length t ≡ 15 → Carries roles.originalName t t
-  unfolding fits fieldBytes
-  name-carries e = record { carried = carried; form = as-long 15 e; back = filled-whole 15 e }
 
 -- ---- what a payment does not tell
 

@@ -48,18 +48,21 @@ characters-append xs ys a b = append-by ys b (length xs) xs a
 
 -- ---- filled up
 
-spaces-single : (n k : ℕ) → all single (take k (replicate n 32)) ≡ true
+pub spaces-single : (n k : ℕ) → all single (take k (replicate n 32)) ≡ true
 unfolding all
 spaces-single zero zero = refl
 spaces-single zero (suc k) = refl
 spaces-single (suc n) zero = refl
 spaces-single (suc n) (suc k) = spaces-single n k
 
+pub filled-split : (w : ℕ) (t : List ℕ) → length t ≤ w → filled w t ≡ t ++ take (w - length t) (replicate w 32)
+filled-split w t h =
+    let room : w ≡ length t + (w - length t) = omega arith in
+    ap (λ (k : ℕ). take k (t ++ replicate w 32)) room ∙ take-append-add t (replicate w 32) (w - length t)
+
 pub filled-characters : (w : ℕ) (t : List ℕ) → length t ≤ w → characters t ≡ true → characters (filled w t) ≡ true
 filled-characters w t h e =
-    let room : w ≡ length t + (w - length t) = omega arith in
-    let split : filled w t ≡ t ++ take (w - length t) (replicate w 32) = ap (λ (k : ℕ). take k (t ++ replicate w 32)) room ∙ take-append-add t (replicate w 32) (w - length t) in
-    rw split (characters-append t (take (w - length t) (replicate w 32)) e (singles (take (w - length t) (replicate w 32)) (spaces-single w (w - length t))))
+    rw (filled-split w t h) (characters-append t (take (w - length t) (replicate w 32)) e (singles (take (w - length t) (replicate w 32)) (spaces-single w (w - length t))))
 
 office : characters (text "XXX") ≡ true
 unfolding charactersBy widthAt widthOf

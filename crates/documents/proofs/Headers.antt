@@ -20,6 +20,7 @@ use Rattle.paths.specs.Roles as roles
 use Rattle.paths.specs.Table.{among, childRole, allMet, lacks}
 use Rattle.fields.specs.Fields.{fits, isClearing, isSystem}
 use borrow.Author.Tests.{eqb-true}
+use Rattle.documents.specs.Brevity.{Brevity, worded}
 use Rattle.documents.specs.Amounts.{euroText}
 use Rattle.documents.specs.Markup.{Markup, nothing, field, group}
 use Rattle.documents.specs.Carried.{charactersBy, characters, CarriedHeader}
@@ -28,7 +29,8 @@ use Rattle.documents.proofs.Here.{all}
 use Rattle.documents.proofs.Tags.{isName}
 use Rattle.documents.proofs.Elements.{Fitting}
 use Rattle.documents.proofs.Questions.{textIn, thereIn, countIn, lackIn, messagesOf}
-use Rattle.documents.proofs.Fields.{Carries, number-back, part-then, bulk-identifier-carries, sender-carries, number-carries, sum-carries, date-carries}
+use Rattle.documents.proofs.Fields.{Carries, number-back, part-then, number-carries, sum-carries, date-carries}
+use Rattle.documents.proofs.Worded.{bulk-identifier-carries, sender-carries}
 use Rattle.documents.proofs.Messages.{fitting-field}
 
 -- ---- the marks
@@ -77,9 +79,9 @@ recipient-fits parent plays false = tt
 
 -- ---- the header's elements, with anything behind them
 
-abbrev headed : String → List ℕ → Markup → Markup
-headed sum h rest =
-    field roles.bulkIdentifier (text "MsgId") (bulkIdentifierOf h)
+abbrev headed : Brevity → String → List ℕ → Markup → Markup
+headed brief sum h rest =
+    field roles.bulkIdentifier (text "MsgId") (worded brief roles.bulkIdentifier (bulkIdentifierOf h))
     (field roles.statedNumber (text "NbOfTxs") (decimalText (statedNumberOf h))
     (field roles.statedSum (text sum) (euroText (statedSumOf h))
     (field roles.valueDate (text "IntrBkSttlmDt") (dateText (valueDateOf h))
@@ -87,66 +89,66 @@ headed sum h rest =
     (field roles.method (text "SttlmMtd") (methodText (clears (marksOf h)))
     (group roles.clearing (text "ClrSys") (field roles.system (text "Prtry") (systemText (ownSystem (marksOf h))) nothing) nothing))
     (group roles.senderAgent (text "InstgAgt")
-    (group roles.senderInstitution (text "FinInstnId") (field roles.sender (text "BICFI") (senderOf h) nothing) nothing)
+    (group roles.senderInstitution (text "FinInstnId") (field roles.sender (text "BICFI") (worded brief roles.sender (senderOf h)) nothing) nothing)
     rest)))))
 
-module _ (sum : String) (h : List ℕ) where
-  pub header-lone : messagesOf (headerOf sum h) ≡ []
+module _ (brief : Brevity) (sum : String) (h : List ℕ) where
+  pub header-lone : messagesOf (headerOf brief sum h) ≡ []
   unfolding messagesOf
   header-lone = by-recipient (received (marksOf h))
     where
-      by-recipient : (b : Bool) → messagesOf (headed sum h (recipientIf b)) ≡ []
+      by-recipient : (b : Bool) → messagesOf (headed brief sum h (recipientIf b)) ≡ []
       by-recipient true = refl
       by-recipient false = refl
 
-  pub header-there : thereIn roles.recipient (headerOf sum h) false ≡ received (marksOf h)
+  pub header-there : thereIn roles.recipient (headerOf brief sum h) false ≡ received (marksOf h)
   unfolding thereIn
   header-there = by-recipient (received (marksOf h))
     where
-      by-recipient : (b : Bool) → thereIn roles.recipient (headed sum h (recipientIf b)) false ≡ b
+      by-recipient : (b : Bool) → thereIn roles.recipient (headed brief sum h (recipientIf b)) false ≡ b
       by-recipient true = refl
       by-recipient false = refl
 
-  pub header-no-payments : thereIn roles.payments (headerOf sum h) false ≡ false
+  pub header-no-payments : thereIn roles.payments (headerOf brief sum h) false ≡ false
   unfolding thereIn
   header-no-payments = by-recipient (received (marksOf h))
     where
-      by-recipient : (b : Bool) → thereIn roles.payments (headed sum h (recipientIf b)) false ≡ false
+      by-recipient : (b : Bool) → thereIn roles.payments (headed brief sum h (recipientIf b)) false ≡ false
       by-recipient true = refl
       by-recipient false = refl
 
-  pub header-complete : lacks roles.paymentsHeader (countIn (headerOf sum h)) ≡ false
+  pub header-complete : lacks roles.paymentsHeader (countIn (headerOf brief sum h)) ≡ false
   unfolding lacks allMet countIn
   header-complete = by-recipient (received (marksOf h))
     where
-      by-recipient : (b : Bool) → lacks roles.paymentsHeader (countIn (headed sum h (recipientIf b))) ≡ false
+      by-recipient : (b : Bool) → lacks roles.paymentsHeader (countIn (headed brief sum h (recipientIf b))) ≡ false
       by-recipient true = refl
       by-recipient false = refl
 
-  pub header-complete-too : lacks roles.returnsHeader (countIn (headerOf sum h)) ≡ false
+  pub header-complete-too : lacks roles.returnsHeader (countIn (headerOf brief sum h)) ≡ false
   unfolding lacks allMet countIn
   header-complete-too = by-recipient (received (marksOf h))
     where
-      by-recipient : (b : Bool) → lacks roles.returnsHeader (countIn (headed sum h (recipientIf b))) ≡ false
+      by-recipient : (b : Bool) → lacks roles.returnsHeader (countIn (headed brief sum h (recipientIf b))) ≡ false
       by-recipient true = refl
       by-recipient false = refl
 
-  pub header-below : lackIn (headerOf sum h) ≡ false
+  pub header-below : lackIn (headerOf brief sum h) ≡ false
   unfolding lackIn lacks allMet countIn
   header-below = by-recipient (received (marksOf h))
     where
-      by-recipient : (b : Bool) → lackIn (headed sum h (recipientIf b)) ≡ false
+      by-recipient : (b : Bool) → lackIn (headed brief sum h (recipientIf b)) ≡ false
       by-recipient true = refl
       by-recipient false = refl
 
 -- ---- the header's fields
 
 module _ (h : List ℕ) (c : CarriedHeader h) where
-  pub identifier : Carries roles.bulkIdentifier (bulkIdentifierOf h) (bulkIdentifierOf h)
-  identifier = bulk-identifier-carries (bulkIdentifierOf h) (c .identifier) (bulk-identifier-long h (c .width))
+  pub identifier : (brief : Brevity) → Carries roles.bulkIdentifier (worded brief roles.bulkIdentifier (bulkIdentifierOf h)) (bulkIdentifierOf h)
+  identifier brief = bulk-identifier-carries brief (bulkIdentifierOf h) (c .identifier) (bulk-identifier-long h (c .width))
 
-  pub sender : Carries roles.sender (senderOf h) (senderOf h)
-  sender = sender-carries (senderOf h) (c .sender) (sender-long h (c .width))
+  pub sender : (brief : Brevity) → Carries roles.sender (worded brief roles.sender (senderOf h)) (senderOf h)
+  sender brief = sender-carries brief (senderOf h) (c .sender) (sender-long h (c .width))
 
   pub number : Carries roles.statedNumber (decimalText (statedNumberOf h)) (bytesOf 8 (statedNumberOf h))
   number = number-carries (statedNumberOf h) (c .number)
@@ -173,7 +175,7 @@ module _ (h : List ℕ) (c : CarriedHeader h) where
 
   -- ---- they fit, where the table names them
 
-  pub header-fits : (parent : ℕ) (sum : String)
+  pub header-fits : (brief : Brevity) (parent : ℕ) (sum : String)
       → childRole parent (text "MsgId") ≡ roles.bulkIdentifier
       → childRole parent (text "NbOfTxs") ≡ roles.statedNumber
       → isName (text sum) ≡ true
@@ -182,10 +184,10 @@ module _ (h : List ℕ) (c : CarriedHeader h) where
       → childRole parent (text "SttlmInf") ≡ roles.settlement
       → childRole parent (text "InstgAgt") ≡ roles.senderAgent
       → childRole parent (text "InstdAgt") ≡ roles.recipient
-      → Fitting 29 parent (headerOf sum h)
+      → Fitting 29 parent (headerOf brief sum h)
   unfolding Fitting nameStart nameByte all childRole among same fits
-  header-fits parent sum a b named d e f g k = (
-    fitting-field parent roles.bulkIdentifier (text "MsgId") (bulkIdentifierOf h) _ identifier refl a refl,
+  header-fits brief parent sum a b named d e f g k = (
+    fitting-field parent roles.bulkIdentifier (text "MsgId") (worded brief roles.bulkIdentifier (bulkIdentifierOf h)) _ (identifier brief) refl a refl,
     (
       fitting-field parent roles.statedNumber (text "NbOfTxs") (decimalText (statedNumberOf h)) _ number refl b refl,
       (
@@ -204,7 +206,7 @@ module _ (h : List ℕ) (c : CarriedHeader h) where
             ),
             (
               record { named = refl; plays = g; kind = refl; known = refl },
-              (record { named = refl; plays = refl; kind = refl; known = refl }, (fitting-field roles.senderInstitution roles.sender (text "BICFI") (senderOf h) _ sender refl refl refl, tt), tt),
+              (record { named = refl; plays = refl; kind = refl; known = refl }, (fitting-field roles.senderInstitution roles.sender (text "BICFI") (worded brief roles.sender (senderOf h)) _ (sender brief) refl refl refl, tt), tt),
               recipient-fits parent k (received (marksOf h)),
             ),
           ),

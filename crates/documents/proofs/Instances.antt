@@ -19,9 +19,8 @@ use Rattle.sheet.proofs.Computing.{sheetsCompute}
 use Rattle.letters.specs.Characters.{widthOf, widthAt}
 use Rattle.reading.specs.Reading.{reads, outcome}
 use Rattle.reading.specs.declared.Reading.the-variants.{Made}
-use Rattle.documents.specs.Spelling.{byNames}
 use Rattle.documents.specs.Carried.{charactersBy, CarriedMessages, CarriedBulk, CarriedEach, Carried}
-use Rattle.documents.specs.Documents.{documentsOf}
+use Rattle.documents.specs.Documents.{Manner, documentsOf}
 use Rattle.documents.proofs.ReadBack.{reads-back}
 
 unfoldable pub payments : Bulk
@@ -113,6 +112,6 @@ both-carried : Carried both
 unfolding CarriedEach
 both-carried = record { each = (payments-carried, (returns-carried, tt)); some = lit< tt; few = lit< tt }
 
-pub both-back : (space : List ℕ) → 304 ≤ length space → reads (documentsOf true byNames both) space ≡ outcome (Made 304) (sets space 0 (sheetBytes both))
+pub both-back : (manner : Manner) (space : List ℕ) → 304 ≤ length space → reads (documentsOf manner both) space ≡ outcome (Made 304) (sets space 0 (sheetBytes both))
 unfolding sheetsCompute payments returns
-both-back space room = reads-back true byNames both space both-carried room
+both-back manner space room = reads-back manner both space both-carried room

@@ -10,6 +10,7 @@ pub mod Elements
 pub mod Questions
 pub mod Amounts
 pub mod Fields
+pub mod Worded
 pub mod Each
 pub mod Messages
 pub mod Headers

@@ -13,6 +13,7 @@ use Rattle.sheet.proofs.Fields.{identifier-long, receiver-long, reason-long, na
 use Rattle.tags.specs.Names.{nameStart, nameByte}
 use Rattle.paths.specs.Roles as roles
 use Rattle.paths.specs.Table.{among, childRole, allMet, lacks}
+use Rattle.documents.specs.Brevity.{Brevity, worded}
 use Rattle.documents.specs.Amounts.{euroText}
 use Rattle.documents.specs.Carried.{CarriedMessage}
 use Rattle.documents.specs.Documents.{paymentOf, returnOf}
@@ -20,7 +21,8 @@ use Rattle.documents.proofs.Here.{all}
 use Rattle.documents.proofs.Tags.{isName}
 use Rattle.documents.proofs.Elements.{FieldFits, Fitting}
 use Rattle.documents.proofs.Questions.{textIn, countIn, lackIn, messagesOf, messageIn}
-use Rattle.documents.proofs.Fields.{Carries, number-back, part-then, identifier-carries, receiver-carries, amount-carries, original-carries, reason-carries, name-carries, no-amount, no-reason, no-name}
+use Rattle.documents.proofs.Fields.{Carries, number-back, part-then, amount-carries, original-carries, no-amount, no-reason, no-name}
+use Rattle.documents.proofs.Worded.{identifier-carries, receiver-carries, reason-carries, name-carries}
 use Rattle.documents.proofs.Each.{one}
 
 -- a field that carries something fits
@@ -36,11 +38,11 @@ module _ (m : List ℕ) (width : length m ≡ 81) where
       rw (part-then m 0 35 11, part-then m 0 46 8, part-then m 0 54 8, part-then m 0 62 4, part-then m 0 66 15) (take-all 81 m (omega arith))
 
 module _ (kind : ℕ) (m : List ℕ) (c : CarriedMessage kind m) where
-  identifier : Carries roles.identifier (identifierOf m) (identifierOf m)
-  identifier = identifier-carries (identifierOf m) (c .identifier) (identifier-long kind m (c .width))
+  identifier : (brief : Brevity) → Carries roles.identifier (worded brief roles.identifier (identifierOf m)) (identifierOf m)
+  identifier brief = identifier-carries brief (identifierOf m) (c .identifier) (identifier-long kind m (c .width))
 
-  receiver : Carries roles.receiver (receiverOf m) (receiverOf m)
-  receiver = receiver-carries (receiverOf m) (c .receiver) (receiver-long kind m (c .width))
+  receiver : (brief : Brevity) → Carries roles.receiver (worded brief roles.receiver (receiverOf m)) (receiverOf m)
+  receiver brief = receiver-carries brief (receiverOf m) (c .receiver) (receiver-long kind m (c .width))
 
   amount : Carries roles.amount (euroText (amountOf m)) (bytesOf 8 (amountOf m))
   amount = amount-carries (amountOf m) (c .amount) (number-small m 46 8 (c .bytes))
@@ -48,11 +50,11 @@ module _ (kind : ℕ) (m : List ℕ) (c : CarriedMessage kind m) where
   original : Carries roles.originalAmount (euroText (originalOf m)) (bytesOf 8 (originalOf m))
   original = original-carries (originalOf m) (c .original) (number-small m 54 8 (c .bytes))
 
-  reason : Carries roles.reason (reasonOf m) (reasonOf m)
-  reason = reason-carries (reasonOf m) (c .reason) (reason-long kind m (c .width))
+  reason : (brief : Brevity) → Carries roles.reason (worded brief roles.reason (reasonOf m)) (reasonOf m)
+  reason brief = reason-carries brief (reasonOf m) (c .reason) (reason-long kind m (c .width))
 
-  name : Carries roles.originalName (nameOf m) (nameOf m)
-  name = name-carries (nameOf m) (c .name) (name-long kind m (c .width))
+  name : (brief : Brevity) → Carries roles.originalName (worded brief roles.originalName (nameOf m)) (nameOf m)
+  name brief = name-carries brief (nameOf m) (c .name) (name-long kind m (c .width))
 
   wide : length m ≡ 81
   unfolding messageWidth
@@ -71,80 +73,80 @@ module _ (kind : ℕ) (m : List ℕ) (c : CarriedMessage kind m) where
 
 -- ---- a payment
 
-module _ (m : List ℕ) where
-  pub payment-complete : lacks roles.onePayment (countIn (paymentOf m)) ≡ false
+module _ (brief : Brevity) (m : List ℕ) where
+  pub payment-complete : lacks roles.onePayment (countIn (paymentOf brief m)) ≡ false
   unfolding lacks allMet countIn
   payment-complete = refl
 
-  pub payment-below : lackIn (paymentOf m) ≡ false
+  pub payment-below : lackIn (paymentOf brief m) ≡ false
   unfolding lackIn lacks allMet countIn
   payment-below = refl
 
-  pub payment-lone : messagesOf (paymentOf m) ≡ []
+  pub payment-lone : messagesOf (paymentOf brief m) ≡ []
   unfolding messagesOf
   payment-lone = refl
 
   module _ (c : CarriedMessage paymentKind m) where
-    pub payment-fits : Fitting 29 roles.onePayment (paymentOf m)
+    pub payment-fits : Fitting 29 roles.onePayment (paymentOf brief m)
     unfolding Fitting nameStart nameByte all childRole among same
     payment-fits = (
       record { named = refl; plays = refl; kind = refl; known = refl },
-      (fitting-field roles.paymentIdentification roles.identifier (text "TxId") (identifierOf m) _ (identifier paymentKind m c) refl refl refl, tt),
+      (fitting-field roles.paymentIdentification roles.identifier (text "TxId") (worded brief roles.identifier (identifierOf m)) _ (identifier paymentKind m c brief) refl refl refl, tt),
       (
         record { named = refl; plays = refl; kind = refl; known = refl },
-        (record { named = refl; plays = refl; kind = refl; known = refl }, (fitting-field roles.receiverInstitution roles.receiver (text "BICFI") (receiverOf m) _ (receiver paymentKind m c) refl refl refl, tt), tt),
+        (record { named = refl; plays = refl; kind = refl; known = refl }, (fitting-field roles.receiverInstitution roles.receiver (text "BICFI") (worded brief roles.receiver (receiverOf m)) _ (receiver paymentKind m c brief) refl refl refl, tt), tt),
         (fitting-field roles.onePayment roles.amount (text "IntrBkSttlmAmt") (euroText (amountOf m)) _ (amount paymentKind m c) refl refl refl, tt),
       ),
     )
 
-    pub payment-back : messageIn (one roles.onePayment (text "CdtTrfTxInf") paymentOf m) ≡ m
+    pub payment-back : messageIn (one roles.onePayment (text "CdtTrfTxInf") (paymentOf brief) m) ≡ m
     unfolding textIn
     payment-back =
         let none = c .payment refl in
         together paymentKind m c _ _ _ _ _ _
-        (identifier paymentKind m c .back) (receiver paymentKind m c .back) (amount paymentKind m c .back ∙ amount-there paymentKind m c)
+        (identifier paymentKind m c brief .back) (receiver paymentKind m c brief .back) (amount paymentKind m c .back ∙ amount-there paymentKind m c)
         (no-amount ∙ ap (bytesOf 8) (sym (none .amount)) ∙ original-there paymentKind m c) (no-reason ∙ sym (none .reason)) (no-name ∙ sym (none .name))
 
 -- ---- a return
 
-module _ (m : List ℕ) where
-  pub return-complete : lacks roles.oneReturn (countIn (returnOf m)) ≡ false
+module _ (brief : Brevity) (m : List ℕ) where
+  pub return-complete : lacks roles.oneReturn (countIn (returnOf brief m)) ≡ false
   unfolding lacks allMet countIn
   return-complete = refl
 
-  pub return-below : lackIn (returnOf m) ≡ false
+  pub return-below : lackIn (returnOf brief m) ≡ false
   unfolding lackIn lacks allMet countIn
   return-below = refl
 
-  pub return-lone : messagesOf (returnOf m) ≡ []
+  pub return-lone : messagesOf (returnOf brief m) ≡ []
   unfolding messagesOf
   return-lone = refl
 
   module _ (c : CarriedMessage returnKind m) where
-    pub return-fits : Fitting 29 roles.oneReturn (returnOf m)
+    pub return-fits : Fitting 29 roles.oneReturn (returnOf brief m)
     unfolding Fitting nameStart nameByte all childRole among same
     return-fits = (
-      fitting-field roles.oneReturn roles.identifier (text "RtrId") (identifierOf m) _ (identifier returnKind m c) refl refl refl,
+      fitting-field roles.oneReturn roles.identifier (text "RtrId") (worded brief roles.identifier (identifierOf m)) _ (identifier returnKind m c brief) refl refl refl,
       (
         record { named = refl; plays = refl; kind = refl; known = refl },
-        (record { named = refl; plays = refl; kind = refl; known = refl }, (record { named = refl; plays = refl; kind = refl; known = refl }, (fitting-field roles.receiverInstitution roles.receiver (text "BICFI") (receiverOf m) _ (receiver returnKind m c) refl refl refl, tt), tt), tt),
+        (record { named = refl; plays = refl; kind = refl; known = refl }, (record { named = refl; plays = refl; kind = refl; known = refl }, (fitting-field roles.receiverInstitution roles.receiver (text "BICFI") (worded brief roles.receiver (receiverOf m)) _ (receiver returnKind m c brief) refl refl refl, tt), tt), tt),
         (
           fitting-field roles.oneReturn roles.amount (text "RtrdIntrBkSttlmAmt") (euroText (amountOf m)) _ (amount returnKind m c) refl refl refl,
           (
             fitting-field roles.oneReturn roles.originalAmount (text "OrgnlIntrBkSttlmAmt") (euroText (originalOf m)) _ (original returnKind m c) refl refl refl,
             (
               record { named = refl; plays = refl; kind = refl; known = refl },
-              (record { named = refl; plays = refl; kind = refl; known = refl }, (fitting-field roles.reasonGroup roles.reason (text "Cd") (reasonOf m) _ (reason returnKind m c) refl refl refl, tt), tt),
-              (record { named = refl; plays = refl; kind = refl; known = refl }, (fitting-field roles.originalGroup roles.originalName (text "OrgnlMsgNmId") (nameOf m) _ (name returnKind m c) refl refl refl, tt), tt),
+              (record { named = refl; plays = refl; kind = refl; known = refl }, (fitting-field roles.reasonGroup roles.reason (text "Cd") (worded brief roles.reason (reasonOf m)) _ (reason returnKind m c brief) refl refl refl, tt), tt),
+              (record { named = refl; plays = refl; kind = refl; known = refl }, (fitting-field roles.originalGroup roles.originalName (text "OrgnlMsgNmId") (worded brief roles.originalName (nameOf m)) _ (name returnKind m c brief) refl refl refl, tt), tt),
             ),
           ),
         ),
       ),
     )
 
-    pub return-back : messageIn (one roles.oneReturn (text "TxInf") returnOf m) ≡ m
+    pub return-back : messageIn (one roles.oneReturn (text "TxInf") (returnOf brief) m) ≡ m
     unfolding textIn
     return-back =
         together returnKind m c _ _ _ _ _ _
-        (identifier returnKind m c .back) (receiver returnKind m c .back) (amount returnKind m c .back ∙ amount-there returnKind m c)
-        (original returnKind m c .back ∙ original-there returnKind m c) (reason returnKind m c .back) (name returnKind m c .back)
+        (identifier returnKind m c brief .back) (receiver returnKind m c brief .back) (amount returnKind m c .back ∙ amount-there returnKind m c)
+        (original returnKind m c .back ∙ original-there returnKind m c) (reason returnKind m c brief .back) (name returnKind m c brief .back)

@@ -14,6 +14,7 @@ use Rattle.sheet.specs.Sheet.{Bulk}
 use Rattle.tags.specs.Names.{nameStart, nameByte}
 use Rattle.paths.specs.Roles as roles
 use Rattle.documents.specs.Spelling.{Spelling, spelledIn, spelled}
+use Rattle.documents.specs.Brevity.{Brevity}
 use Rattle.documents.specs.Markup.{Markup, nothing, field, group, attributesOf, closeTo, writtenTo}
 use Rattle.documents.specs.Carried.{characters, CarriedEach}
 use Rattle.documents.specs.Documents.{contentOf, documents}
@@ -98,9 +99,9 @@ markup-bytes how (group role name inner rest) (suc levels) parent behind fit h =
 
 -- ---- documents
 
-pub documents-bytes : (how : Spelling) (bulks : List Bulk) → CarriedEach bulks → all byte (writtenTo how (documents bulks) []) ≡ true
+pub documents-bytes : (how : Spelling) (brief : Brevity) (bulks : List Bulk) → CarriedEach bulks → all byte (writtenTo how (documents brief bulks) []) ≡ true
 unfolding CarriedEach documents writtenTo all
-documents-bytes how [] c = refl
-documents-bytes how (b ∷ bs) c =
-    markup-bytes how (contentOf b) 31 roles.document (closeTo (text "Document") (writtenTo how (documents bs) [])) (bulk-told b (c .0) .fits)
-    (close-bytes (text "Document") (writtenTo how (documents bs) []) refl (documents-bytes how bs (c .1)))
+documents-bytes how brief [] c = refl
+documents-bytes how brief (b ∷ bs) c =
+    markup-bytes how (contentOf brief b) 31 roles.document (closeTo (text "Document") (writtenTo how (documents brief bs) [])) (bulk-told brief b (c .0) .fits)
+    (close-bytes (text "Document") (writtenTo how (documents brief bs) []) refl (documents-bytes how brief bs (c .1)))

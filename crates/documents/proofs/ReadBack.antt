@@ -20,10 +20,9 @@ use Rattle.reading.specs.Meaning.{bulksIn, sheetIn, allCountable, fitsIn}
 use Rattle.reading.specs.Reading.{answered, whenMade, outcome, outcomeOf, reads}
 use Rattle.reading.specs.declared.Reading.{Reading}
 use Rattle.reading.specs.declared.Reading.the-variants.{Made, Short}
-use Rattle.documents.specs.Spelling.{Spelling}
 use Rattle.documents.specs.Markup.{writtenTo}
 use Rattle.documents.specs.Carried.{Carried}
-use Rattle.documents.specs.Documents.{documents, declaration, documentsOf}
+use Rattle.documents.specs.Documents.{documents, declaration, Manner, documentsOf}
 use Rattle.documents.specs.ReadsBack.{ReadsBack, ToldShort}
 use Rattle.documents.proofs.Here.{inside-here}
 use Rattle.documents.proofs.Roots.{RootsRead, roots-read}
@@ -44,19 +43,20 @@ parsed-from : (s : List ℕ) (at : ℕ) (r : Parsed) → prolog s ≡ To at → 
 unfolding parsed
 parsed-from s at r e inside was = rw (e, lt-ltb at (length s) inside, was)
 
-pub parsed-back : (declared : Bool) (how : Spelling) (bulks : List Bulk) → Carried bulks
-    → RootsRead (parsed (documentsOf declared how bulks)) (documentsOf declared how bulks) bulks
+pub parsed-back : (manner : Manner) (bulks : List Bulk) → Carried bulks → RootsRead (parsed (documentsOf manner bulks)) (documentsOf manner bulks) bulks
 unfolding documentsOf documents writtenTo
-parsed-back declared how [] c = absurd (omega (arith, c .some))
-parsed-back declared how (b ∷ bs) c =
-    let s = documentsOf declared how (b ∷ bs) in
-    let at = length (opening declared) in
-    let e : drop at s ≡ writtenTo how (documents (b ∷ bs)) [] = drop-append-seam (opening declared) (writtenTo how (documents (b ∷ bs)) []) in
-    let roots = roots-read how s (b ∷ bs) at (c .each) e in
+parsed-back manner [] c = absurd (omega (arith, c .some))
+parsed-back manner (b ∷ bs) c =
+    let s = documentsOf manner (b ∷ bs) in
+    let front = opening (manner .declared) in
+    let at = length front in
+    let written = writtenTo (manner .spelling) (documents (manner .brevity) (b ∷ bs)) [] in
+    let e : drop at s ≡ written = drop-append-seam front written in
+    let roots = roots-read (manner .spelling) (manner .brevity) s (b ∷ bs) at (c .each) e in
     record {
       end = roots .end;
       forest = roots .forest;
-      was = parsed-from s at _ (first-place declared _) (inside-here s at 60 _ e) (roots .was);
+      was = parsed-from s at _ (first-place (manner .declared) _) (inside-here s at 60 _ e) (roots .was);
       complete = roots .complete;
       countable = roots .countable;
       bulks-are = roots .bulks-are;
@@ -84,9 +84,9 @@ outcome-from s space p end f r was told = rw (was, told)
 
 pub reads-back : ReadsBack
 unfolding reads
-reads-back declared how bulks space c room =
-    let s = documentsOf declared how bulks in
-    let p = parsed-back declared how bulks c in
+reads-back manner bulks space c room =
+    let s = documentsOf manner bulks in
+    let p = parsed-back manner bulks c in
     let n = length (sheetBytes bulks) in
     let made = answer-made s (p .forest) bulks (length space) (p .complete) (p .countable) (p .bulks-are) (c .few) room in
     outcome-from s space (parsed s) (p .end) (p .forest) (Made n) (p .was) made
@@ -94,8 +94,8 @@ reads-back declared how bulks space c room =
 
 pub told-short : ToldShort
 unfolding reads
-told-short declared how bulks space c room =
-    let s = documentsOf declared how bulks in
-    let p = parsed-back declared how bulks c in
+told-short manner bulks space c room =
+    let s = documentsOf manner bulks in
+    let p = parsed-back manner bulks c in
     outcome-from s space (parsed s) (p .end) (p .forest) Short (p .was)
     (answer-short s (p .forest) bulks (length space) (p .complete) (p .countable) (p .bulks-are) (c .few) room)

@@ -21,6 +21,7 @@ use Rattle.reading.specs.Text.{documentAt, rootsAt}
 use Rattle.reading.specs.Meaning.{placesIn, bulkIn, bulksIn, allCountable}
 use Rattle.reading.proofs.Roots.{roots-end, roots-document}
 use Rattle.documents.specs.Spelling.{Spelling}
+use Rattle.documents.specs.Brevity.{Brevity}
 use Rattle.documents.specs.Markup.{nothing, group, closeTo, writtenTo}
 use Rattle.documents.specs.Carried.{CarriedBulk, CarriedEach}
 use Rattle.documents.specs.Documents.{contentOf, documents}
@@ -32,20 +33,20 @@ use Rattle.documents.proofs.Bulks.{Told, bulk-told}
 
 -- ---- one document
 
-pub record DocumentRead (s : List ℕ) (at : ℕ) (b : Bulk) (behind : List ℕ) : Type 0 where
+pub record DocumentRead (brief : Brevity) (s : List ℕ) (at : ℕ) (b : Bulk) (behind : List ℕ) : Type 0 where
   pub end : ℕ
   pub forest : Forest
   pub was : documentAt s at ≡ read end (tree roles.document at forest none)
   pub left : drop end s ≡ behind
-  pub means : Means s (contentOf b) forest
+  pub means : Means s (contentOf brief b) forest
 
-document-reads : (how : Spelling) (s : List ℕ) (at : ℕ) (b : Bulk) (behind : List ℕ) → Told b (contentOf b)
-    → drop at s ≡ writtenTo how (group roles.document (text "Document") (contentOf b) nothing) behind → DocumentRead s at b behind
+document-reads : (how : Spelling) (brief : Brevity) (s : List ℕ) (at : ℕ) (b : Bulk) (behind : List ℕ) → Told b (contentOf brief b)
+    → drop at s ≡ writtenTo how (group roles.document (text "Document") (contentOf brief b) nothing) behind → DocumentRead brief s at b behind
 unfolding writtenTo nameStart nameByte all rootRole same
-document-reads how s at b behind told e =
+document-reads how brief s at b behind told e =
     let name = text "Document" in
-    let inside = writtenTo how (contentOf b) (closeTo name behind) in
-    let held = content-reads how s (contentOf b) 31 roles.document (at + 1 + 8 + 1) (name ++ (62 ∷ behind)) (told .fits) (omega arith) (group-inside 31 s roles.document at name inside behind refl refl refl e) in
+    let inside = writtenTo how (contentOf brief b) (closeTo name behind) in
+    let held = content-reads how s (contentOf brief b) 31 roles.document (at + 1 + 8 + 1) (name ++ (62 ∷ behind)) (told .fits) (omega arith) (group-inside 31 s roles.document at name inside behind refl refl refl e) in
     let named = group-name 31 s roles.document at name inside behind refl refl refl e in
     record {
       end = held .end + 2 + 8 + 1;
@@ -60,7 +61,7 @@ document-reads how s at b behind told e =
 of-parts : (b : Bulk) (x : List ℕ) (xs : List (List ℕ)) → x ≡ b .header → xs ≡ b .messages → _≡_ {A = Bulk} (record { header = x; messages = xs }) b
 of-parts b x xs p q = rw (p, q)
 
-module _ (s : List ℕ) (at : ℕ) (b : Bulk) (f : Forest) (m : Means s (contentOf b) f) (told : Told b (contentOf b)) where
+module _ (brief : Brevity) (s : List ℕ) (at : ℕ) (b : Bulk) (f : Forest) (m : Means s (contentOf brief b) f) (told : Told b (contentOf brief b)) where
   abbrev root : Forest
   root = tree roles.document at f none
 
@@ -69,11 +70,11 @@ module _ (s : List ℕ) (at : ℕ) (b : Bulk) (f : Forest) (m : Means s (content
   root-messages = append-nil (messagesIn f)
 
   messages-back : map (λ (t : Forest). messageOf s (placesIn t)) (messagesIn root) ≡ b .messages
-  messages-back = ap (map (λ (t : Forest). messageOf s (placesIn t))) root-messages ∙ messages-in s (contentOf b) f m ∙ told .messages
+  messages-back = ap (map (λ (t : Forest). messageOf s (placesIn t))) root-messages ∙ messages-in s (contentOf brief b) f m ∙ told .messages
 
   header-back : headerOf s (placesIn root) ≡ b .header
   unfolding headerOf placeIn
-  header-back = header-in s (contentOf b) f m ∙ told .header
+  header-back = header-in s (contentOf brief b) f m ∙ told .header
 
   bulk-back : bulkIn s root ≡ b
   bulk-back = of-parts b _ _ header-back messages-back
@@ -84,7 +85,7 @@ module _ (s : List ℕ) (at : ℕ) (b : Bulk) (f : Forest) (m : Means s (content
       rw few (lt-ltb (length (b .messages)) (2 ^ 32) (c .few))
 
   root-complete : (p : ℕ) → cond (lacks roles.document (countOf f)) (min (firstLack f p) at) (firstLack f p) ≡ p
-  root-complete p = rw (lacks-in s (contentOf b) f m roles.document, told .own) (complete-in s (contentOf b) f m (told .below) p)
+  root-complete p = rw (lacks-in s (contentOf brief b) f m roles.document, told .own) (complete-in s (contentOf brief b) f m (told .below) p)
 
 -- ---- all of them
 
@@ -104,25 +105,25 @@ then-reads s at next f end g ys e was none-between more =
     roots-document s at (read next (tree roles.document at f none)) (inside-here s at 60 ys e) (byte-here s at 60 ys e) was ∙ (rw (none-between, more))
 
 -- no spaces stand behind a document
-unspaced : (how : Spelling) (s : List ℕ) (at : ℕ) (bulks : List Bulk) → drop at s ≡ writtenTo how (documents bulks) [] → spaceEnd s at ≡ at
+unspaced : (how : Spelling) (brief : Brevity) (s : List ℕ) (at : ℕ) (bulks : List Bulk) → drop at s ≡ writtenTo how (documents brief bulks) [] → spaceEnd s at ≡ at
 unfolding writtenTo documents run isSpace
-unspaced how s at [] e = rw e (omega arith)
-unspaced how s at (b ∷ bs) e = no-space s at 60 _ refl e
+unspaced how brief s at [] e = rw e (omega arith)
+unspaced how brief s at (b ∷ bs) e = no-space s at 60 _ refl e
 
-pub roots-read : (how : Spelling) (s : List ℕ) (bulks : List Bulk) (at : ℕ) → CarriedEach bulks → drop at s ≡ writtenTo how (documents bulks) [] → RootsRead (rootsAt s at) s bulks
+pub roots-read : (how : Spelling) (brief : Brevity) (s : List ℕ) (bulks : List Bulk) (at : ℕ) → CarriedEach bulks → drop at s ≡ writtenTo how (documents brief bulks) [] → RootsRead (rootsAt s at) s bulks
 unfolding writtenTo documents CarriedEach firstLack allCountable bulksIn
-roots-read how s [] at c e =
+roots-read how brief s [] at c e =
     record { end = at; forest = none; was = roots-end s at (past-here s at e); complete = λ q. refl; countable = refl; bulks-are = refl }
-roots-read how s (b ∷ bs) at c e =
-    let told = bulk-told b (c .0) in
-    let behind = writtenTo how (documents bs) [] in
-    let one = document-reads how s at b behind told e in
-    let more = roots-read how s bs (one .end) (c .1) (one .left) in
+roots-read how brief s (b ∷ bs) at c e =
+    let told = bulk-told brief b (c .0) in
+    let behind = writtenTo how (documents brief bs) [] in
+    let one = document-reads how brief s at b behind told e in
+    let more = roots-read how brief s bs (one .end) (c .1) (one .left) in
     record {
       end = more .end;
       forest = tree roles.document at (one .forest) (more .forest);
-      was = then-reads s at (one .end) (one .forest) (more .end) (more .forest) _ e (one .was) (unspaced how s (one .end) bs (one .left)) (more .was);
-      complete = λ q. ap (firstLack (more .forest)) (root-complete s at b (one .forest) (one .means) told q) ∙ more .complete q;
-      countable = rw (messages-few s at b (one .forest) (one .means) told (c .0), more .countable);
-      bulks-are = rw (bulk-back s at b (one .forest) (one .means) told, more .bulks-are);
+      was = then-reads s at (one .end) (one .forest) (more .end) (more .forest) _ e (one .was) (unspaced how brief s (one .end) bs (one .left)) (more .was);
+      complete = λ q. ap (firstLack (more .forest)) (root-complete brief s at b (one .forest) (one .means) told q) ∙ more .complete q;
+      countable = rw (messages-few brief s at b (one .forest) (one .means) told (c .0), more .countable);
+      bulks-are = rw (bulk-back brief s at b (one .forest) (one .means) told, more .bulks-are);
     }

@@ -10,8 +10,13 @@ use Rattle.meanings.specs.Written.{decimalText, dateText}
 use Rattle.paths.specs.Roles as roles
 use Rattle.paths.specs.Table.{receiverPath, returnReceiverPath}
 use Rattle.documents.specs.Spelling.{Spelling}
+use Rattle.documents.specs.Brevity.{Brevity, worded}
 use Rattle.documents.specs.Amounts.{euroText}
 use Rattle.documents.specs.Markup.{Markup, nothing, field, group, writtenTo}
+
+-- a field that is kept as text, whole or short
+abbrev pub textField : Brevity → ℕ → String → List ℕ → Markup → Markup
+textField brief role name t rest = field role (text name) (worded brief role t) rest
 
 -- ---- the header
 
@@ -38,44 +43,44 @@ settled clearing own =
     nothing)
 
 -- an institution by its BIC; the roles of the two elements go by whose it is
-abbrev pub institution : ℕ → ℕ → List ℕ → Markup
-institution holder held bic = group holder (text "FinInstnId") (field held (text "BICFI") bic nothing) nothing
+abbrev pub institution : Brevity → ℕ → ℕ → List ℕ → Markup
+institution brief holder held bic = group holder (text "FinInstnId") (textField brief held "BICFI" bic nothing) nothing
 
 abbrev pub recipientIf : Bool → Markup
 recipientIf there = cond there (group roles.recipient (text "InstdAgt") nothing nothing) nothing
 
 -- the sum's element is named by the kind of the bulk
-abbrev pub headerOf : String → List ℕ → Markup
-headerOf sum header =
-    field roles.bulkIdentifier (text "MsgId") (bulkIdentifierOf header)
+abbrev pub headerOf : Brevity → String → List ℕ → Markup
+headerOf brief sum header =
+    textField brief roles.bulkIdentifier "MsgId" (bulkIdentifierOf header)
     (field roles.statedNumber (text "NbOfTxs") (decimalText (statedNumberOf header))
     (field roles.statedSum (text sum) (euroText (statedSumOf header))
     (field roles.valueDate (text "IntrBkSttlmDt") (dateText (valueDateOf header))
     (group roles.settlement (text "SttlmInf") (settled (clears (marksOf header)) (ownSystem (marksOf header)))
-    (group roles.senderAgent (text "InstgAgt") (institution roles.senderInstitution roles.sender (senderOf header))
+    (group roles.senderAgent (text "InstgAgt") (institution brief roles.senderInstitution roles.sender (senderOf header))
     (recipientIf (received (marksOf header))))))))
 
 -- ---- the messages
 
--- the receiver, in an element whose name goes by the kind, and what follows; its 11 bytes are written whole, so that eight characters and three spaces come back as they were
-abbrev pub receiverThen : String → List ℕ → Markup → Markup
-receiverThen path message rest = group roles.receiverAgent (text path) (institution roles.receiverInstitution roles.receiver (receiverOf message)) rest
+-- the receiver, in an element whose name goes by the kind, and what follows
+abbrev pub receiverThen : Brevity → String → List ℕ → Markup → Markup
+receiverThen brief path message rest = group roles.receiverAgent (text path) (institution brief roles.receiverInstitution roles.receiver (receiverOf message)) rest
 
-abbrev pub paymentOf : List ℕ → Markup
-paymentOf message =
-    group roles.paymentIdentification (text "PmtId") (field roles.identifier (text "TxId") (identifierOf message) nothing)
-    (receiverThen receiverPath message
+abbrev pub paymentOf : Brevity → List ℕ → Markup
+paymentOf brief message =
+    group roles.paymentIdentification (text "PmtId") (textField brief roles.identifier "TxId" (identifierOf message) nothing)
+    (receiverThen brief receiverPath message
     (field roles.amount (text "IntrBkSttlmAmt") (euroText (amountOf message))
     nothing))
 
-abbrev pub returnOf : List ℕ → Markup
-returnOf message =
-    field roles.identifier (text "RtrId") (identifierOf message)
-    (group roles.originalReference (text "OrgnlTxRef") (receiverThen returnReceiverPath message nothing)
+abbrev pub returnOf : Brevity → List ℕ → Markup
+returnOf brief message =
+    textField brief roles.identifier "RtrId" (identifierOf message)
+    (group roles.originalReference (text "OrgnlTxRef") (receiverThen brief returnReceiverPath message nothing)
     (field roles.amount (text "RtrdIntrBkSttlmAmt") (euroText (amountOf message))
     (field roles.originalAmount (text "OrgnlIntrBkSttlmAmt") (euroText (originalOf message))
-    (group roles.reasonInformation (text "RtrRsnInf") (group roles.reasonGroup (text "Rsn") (field roles.reason (text "Cd") (reasonOf message) nothing) nothing)
-    (group roles.originalGroup (text "OrgnlGrpInf") (field roles.originalName (text "OrgnlMsgNmId") (nameOf message) nothing)
+    (group roles.reasonInformation (text "RtrRsnInf") (group roles.reasonGroup (text "Rsn") (textField brief roles.reason "Cd" (reasonOf message) nothing) nothing)
+    (group roles.originalGroup (text "OrgnlGrpInf") (textField brief roles.originalName "OrgnlMsgNmId" (nameOf message) nothing)
     nothing)))))
 
 -- one element for each message, of a role and a name
@@ -85,30 +90,35 @@ eachOf role name inner (m ∷ ms) = group role name (inner m) (eachOf role name 
 
 -- ---- the documents
 
-abbrev pub paymentsOf : Bulk → Markup
-paymentsOf bulk =
+abbrev pub paymentsOf : Brevity → Bulk → Markup
+paymentsOf brief bulk =
     group roles.payments (text "FIToFICstmrCdtTrf")
-    (group roles.paymentsHeader (text "GrpHdr") (headerOf "TtlIntrBkSttlmAmt" (bulk .header))
-    (eachOf roles.onePayment (text "CdtTrfTxInf") paymentOf (bulk .messages)))
+    (group roles.paymentsHeader (text "GrpHdr") (headerOf brief "TtlIntrBkSttlmAmt" (bulk .header))
+    (eachOf roles.onePayment (text "CdtTrfTxInf") (paymentOf brief) (bulk .messages)))
     nothing
 
-abbrev pub returnsOf : Bulk → Markup
-returnsOf bulk =
+abbrev pub returnsOf : Brevity → Bulk → Markup
+returnsOf brief bulk =
     group roles.returns (text "PmtRtr")
-    (group roles.returnsHeader (text "GrpHdr") (headerOf "TtlRtrdIntrBkSttlmAmt" (bulk .header))
-    (eachOf roles.oneReturn (text "TxInf") returnOf (bulk .messages)))
+    (group roles.returnsHeader (text "GrpHdr") (headerOf brief "TtlRtrdIntrBkSttlmAmt" (bulk .header))
+    (eachOf roles.oneReturn (text "TxInf") (returnOf brief) (bulk .messages)))
     nothing
 
-abbrev pub contentOf : Bulk → Markup
-contentOf bulk = cond (eqb (kindOf (bulk .header)) paymentKind) (paymentsOf bulk) (returnsOf bulk)
+abbrev pub contentOf : Brevity → Bulk → Markup
+contentOf brief bulk = cond (eqb (kindOf (bulk .header)) paymentKind) (paymentsOf brief bulk) (returnsOf brief bulk)
 
-unfoldable pub documents : List Bulk → Markup
-documents [] = nothing
-documents (b ∷ bs) = group roles.document (text "Document") (contentOf b) (documents bs)
+unfoldable pub documents : Brevity → List Bulk → Markup
+documents brief [] = nothing
+documents brief (b ∷ bs) = group roles.document (text "Document") (contentOf brief b) (documents brief bs)
 
 abbrev pub declaration : List ℕ
 declaration = text "<?xml version=\"1.0\" encoding=\"UTF-8\"?>"
 
--- with a declaration in front or none
-unfoldable pub documentsOf : Bool → Spelling → List Bulk → List ℕ
-documentsOf declared how bulks = cond declared declaration [] ++ writtenTo how (documents bulks) []
+-- what a writer is free to choose: a declaration in front or none, how characters are spelled, and which texts are written short
+pub record Manner : Type 0 where
+  pub declared : Bool
+  pub spelling : Spelling
+  pub brevity : Brevity
+
+unfoldable pub documentsOf : Manner → List Bulk → List ℕ
+documentsOf manner bulks = cond (manner .declared) declaration [] ++ writtenTo (manner .spelling) (documents (manner .brevity) bulks) []

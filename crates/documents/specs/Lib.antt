@@ -1,4 +1,5 @@
 pub mod Spelling
+pub mod Brevity
 pub mod Amounts
 pub mod Markup
 pub mod Carried
