@@ -37,15 +37,15 @@ record Before (xs ys more rest : List ℕ) : Type 0 where
   front : xs ≡ more ++ left
   back : rest ≡ left ++ ys
 
-module _ (ys : List ℕ) (ones : all single ys ≡ true) where
-  not-high : (ys : List ℕ) → all single ys ≡ true → (a : ℕ) (rest : List ℕ) → high a ≡ true → ys ≡ a ∷ rest → ⊥
-  unfolding all
-  not-high ys ones a rest tall is =
-      let both = and-eq-true-iff (single a) (all single rest) .0 (rw is at ones) in
-      let small = single-small a (both .0) in
-      let big = within-true 128 255 a tall in
-      omega arith
+not-high : (ys : List ℕ) → all single ys ≡ true → (a : ℕ) (rest : List ℕ) → high a ≡ true → ys ≡ a ∷ rest → ⊥
+unfolding all
+not-high ys ones a rest tall is =
+    let both = and-eq-true-iff (single a) (all single rest) .0 (rw is at ones) in
+    let small = single-small a (both .0) in
+    let big = within-true 128 255 a tall in
+    omega arith
 
+module _ (ys : List ℕ) (ones : all single ys ≡ true) where
   split : (more rest xs : List ℕ) → all high more ≡ true → xs ++ ys ≡ more ++ rest → Before xs ys more rest
   unfolding all
   split [] rest xs tall is = record { left = xs; front = refl; back = sym is }
