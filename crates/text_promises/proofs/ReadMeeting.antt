@@ -29,6 +29,7 @@ use Rattle.text_promises.specs.ReadCode.{WellRead, OverTexts, ReadEntry,
 use Rattle.promises.proofs.Told.{tell, both, taken}
 use Rattle.text_promises.proofs.Answered.{answers-as-written}
 use Rattle.text_promises.proofs.Texts.{sheet-holds-documents, keeps-the-space, read-is-whole, every-document-told, cuts-between-documents}
+use Rattle.text_promises.proofs.TextCuts.{reads-in-parts, cuts-texts}
 use Rattle.text_promises.proofs.TextRuns.{texts-run-as-promised}
 
 -- what is left by a reading is three numbers and its bytes
@@ -62,6 +63,8 @@ over-texts judge demands =
       whole = read-is-whole judge (demands .refuses);
       lines = every-document-told judge (demands .lines);
       cut = cuts-between-documents judge (demands .cut);
+      parts = reads-in-parts;
+      textCut = cuts-texts judge (demands .cut);
       run = texts-run-as-promised judge (demands .run);
     }
 

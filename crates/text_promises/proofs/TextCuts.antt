@@ -19,7 +19,7 @@ use Rattle.joining.proofs.Read.{parts-read}
 use Rattle.promises.specs.Reading.{Judge}
 use Rattle.promises.specs.Cut.{Enough, PartsMakeTheWhole, CutsAnywhere}
 use Rattle.text_promises.specs.Texts.{theReader, ReadAs, rootsOf, documentsBy, documents, onSheet, firstDocuments, laterDocuments}
-use Rattle.text_promises.specs.TextCuts.{cutBy, cutAt, firstPart, laterPart, PartsRead, ReadsInParts, CutsTexts}
+use Rattle.text_promises.specs.TextCuts.{cutBy, cutAt, firstText, laterText, BothRead, ReadsInParts, CutsTexts}
 use Rattle.text_promises.proofs.Texts.{made, meant-is, sheet-is, cuts-between-documents}
 
 -- what is read into every space that is long enough is read into one
@@ -67,8 +67,8 @@ reads-in-parts text sheet how k some fewer =
 pub cuts-texts : (judge : Judge) → CutsAnywhere judge → CutsTexts theReader judge
 cuts-texts judge cuts text call how bytes clear k some fewer sheet sheet' one two space space' =
     let parts = reads-in-parts text (call .sheet) how k some fewer in
-    let first = read-once (firstPart text k) (firstDocuments text k) sheet (parts .first) one in
-    let later = read-once (laterPart text k) (laterDocuments text k) sheet' (parts .later) two in
+    let first = read-once (firstText text k) (firstDocuments text k) sheet (parts .first) one in
+    let later = read-once (laterText text k) (laterDocuments text k) sheet' (parts .later) two in
     let Judged : List ℕ → List ℕ → Type 0 = λ (a b : List ℕ).
     Enough a space → Enough b space'
     → PartsMakeTheWhole (judge call) (judge (onSheet call a (call .register) (call .positions) space))

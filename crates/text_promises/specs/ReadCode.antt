@@ -25,6 +25,7 @@ use Rattle.promises.specs.Reading.{Judge}
 use Rattle.promises.specs.Determined.{Allows}
 use Rattle.promises.specs.Code.{AllDemands}
 use Rattle.text_promises.specs.Texts.{Reader, WasRead, sheetLeft, AnswersRight, AnswersAsWritten, HoldsDocuments, SheetHoldsDocuments, Keeps, KeepsTheSpace, ReadIsWhole, EveryDocumentTold, CutsBetweenDocuments}
+use Rattle.text_promises.specs.TextCuts.{ReadsInParts, CutsTexts}
 use Rattle.text_promises.specs.TextRuns.{TextsRunAsPromised}
 
 -- ---- what is asked
@@ -43,6 +44,8 @@ pub record OverTexts (reader : Reader) (judge : Judge) : Type 0 where
   pub whole : ReadIsWhole reader judge
   pub lines : EveryDocumentTold reader judge
   pub cut : CutsBetweenDocuments reader judge
+  pub parts : ReadsInParts reader
+  pub textCut : CutsTexts reader judge
   pub run : TextsRunAsPromised reader judge
 
 module _ {M : Type 1} (𝓤 : URA M) where

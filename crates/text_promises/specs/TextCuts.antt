@@ -24,22 +24,22 @@ unfoldable pub cutAt : List ℕ → ℕ → ℕ
 cutAt text k = cutBy text k (parsed text)
 
 -- all up to there: what stands before the documents, the first k of them, and the spaces behind them
-abbrev pub firstPart : List ℕ → ℕ → List ℕ
-firstPart text k = take (cutAt text k) text
+abbrev pub firstText : List ℕ → ℕ → List ℕ
+firstText text k = take (cutAt text k) text
 
 -- the other documents
-abbrev pub laterPart : List ℕ → ℕ → List ℕ
-laterPart text k = drop (cutAt text k) text
+abbrev pub laterText : List ℕ → ℕ → List ℕ
+laterText text k = drop (cutAt text k) text
 
 -- ---- each is read by itself
 
 -- as the sheet of its own documents
-pub record PartsRead (reader : Reader) (text : List ℕ) (k : ℕ) : Type 0 where
-  pub first : ReadAs reader (firstPart text k) (firstDocuments text k)
-  pub later : ReadAs reader (laterPart text k) (laterDocuments text k)
+pub record BothRead (reader : Reader) (text : List ℕ) (k : ℕ) : Type 0 where
+  pub first : ReadAs reader (firstText text k) (firstDocuments text k)
+  pub later : ReadAs reader (laterText text k) (laterDocuments text k)
 
 abbrev pub ReadsInParts : Reader → Type 0
-ReadsInParts reader = (text sheet : List ℕ) → ReadAs reader text sheet → (k : ℕ) → 0 < k → k < length (documents text) → PartsRead reader text k
+ReadsInParts reader = (text sheet : List ℕ) → ReadAs reader text sheet → (k : ℕ) → 0 < k → k < length (documents text) → BothRead reader text k
 
 -- ---- and judged
 
@@ -48,7 +48,7 @@ abbrev pub CutsTexts : Reader → Judge → Type 0
 CutsTexts reader judge =
     (text : List ℕ) (call : Call) → ReadAs reader text (call .sheet) → TextInBytes text call → refusal call ≡ 0
     → (k : ℕ) → 0 < k → k < length (documents text)
-    → (sheet sheet' : List ℕ) → ReadAs reader (firstPart text k) sheet → ReadAs reader (laterPart text k) sheet'
+    → (sheet sheet' : List ℕ) → ReadAs reader (firstText text k) sheet → ReadAs reader (laterText text k) sheet'
     → (space space' : List ℕ) → Enough sheet space → Enough sheet' space'
     → let one = judge (onSheet call sheet (call .register) (call .positions) space) in
     PartsMakeTheWhole (judge call) one (judge (onSheet call sheet' (one .register) (one .positions) space'))
