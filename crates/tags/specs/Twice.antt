@@ -18,6 +18,10 @@ use Rattle.tags.specs.Attributes.{attributeAt, someAttribute, attributeT
 abbrev pub block : ℕ
 block = 256
 
+-- how many slots there are for the marks of a block
+abbrev pub slots : ℕ
+slots = 2048
+
 -- a number that depends on a name alone, so that equal names have equal ones
 unfoldable pub markFrom : ℕ → List ℕ → ℕ
 markFrom v [] = v
@@ -50,22 +54,24 @@ sooner (To e) r = r
 sooner (Broken p) (To e) = Broken p
 sooner (Broken p) (Broken q) = Broken (min p q)
 
--- beside each of the first n places stands the mark of its name
-pub record Marked (s places marks : List ℕ) (n : ℕ) : Type 0 where
+-- beside each of the first n places stands the mark of its name, and its slot is taken
+pub record Marked (s places marks seen : List ℕ) (n : ℕ) : Type 0 where
   pub room : n ≤ length places
   pub beside : n ≤ length marks
   pub marked : (j : ℕ) → j < n → getD marks j 0 ≡ markAt s (getD places j 0)
+  pub sized : length seen ≡ slots
+  pub taken : (j : ℕ) → j < n → getD seen (markAt s (getD places j 0) % slots) 0 ≡ 1
 
 -- the first n places are those of the attributes between two places, of which no two have one name
-pub record Held (s : List ℕ) (from at : ℕ) (places marks : List ℕ) (n : ℕ) : Type 0 where
-  pub marks-held : Marked s places marks n
+pub record Held (s : List ℕ) (from at : ℕ) (places marks seen : List ℕ) (n : ℕ) : Type 0 where
+  pub marks-held : Marked s places marks seen n
   pub onward : from + n ≤ at
   pub inside : 0 < n → from < length s
   pub left : walk (attributeTurn s from) s at ≡ attributesAt s from
   pub covered : (test : ℕ → Bool) (end : ℕ) → at ≤ end → someAttribute test s from end ≡ (someOf test places n || someAttribute test s at end)
 
 -- a block is full, or the attributes end or break before it is
-abbrev pub Filled : List ℕ → ℕ → List ℕ → List ℕ → Turn → Type 0
-Filled s from places marks (On at) = Held s from at places marks block
-Filled s from places marks (Ends e) = attributesAt s from ≡ To e
-Filled s from places marks (Breaks p) = attributesAt s from ≡ Broken p
+abbrev pub Filled : List ℕ → ℕ → List ℕ → List ℕ → List ℕ → Turn → Type 0
+Filled s from places marks seen (On at) = Held s from at places marks seen block
+Filled s from places marks seen (Ends e) = attributesAt s from ≡ To e
+Filled s from places marks seen (Breaks p) = attributesAt s from ≡ Broken p

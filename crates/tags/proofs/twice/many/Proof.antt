@@ -22,42 +22,42 @@ unfolding sooner
 loop-holds c = (refl, refl, refl)
 
 fill-requires : tie.Need-fill-requires Inv-loop μ-loop
-fill-requires c κs = (c .before .before .loop .inv .0, c .before .before .loop .inv .1)
+fill-requires c κs = (c .before .before .before .loop .inv .0, c .before .before .before .loop .inv .1, refl)
 
 follow-requires : tie.Need-follow-requires Inv-loop μ-loop
-follow-requires c κs = (filled-full (c .before .before .before .before .before .before .before .before .before .before .before .before .args .s .now) (c .before .before .before .before .before .before .before .before .before .before .loop .i) _ _ (c .before .before .before .before .before .before .before .fill .result) (c .before .before .before .before .before .before .before .fill .ensures) (c .before .before .before .n .given .0 .0) (c .before .before .before .n .given .1)) .marks-held
+follow-requires c κs = (filled-full (c .before .before .before .before .before .before .before .before .before .before .before .before .before .before .before .args .s .now) (c .before .before .before .before .before .before .before .before .before .before .before .before .before .loop .i) _ _ _ (c .before .before .before .before .before .before .before .before .before .fill .result) (c .before .before .before .before .before .before .before .before .before .fill .ensures) (c .before .before .before .before .n .given .0 .0) (c .before .before .before .before .n .given .1)) .marks-held
 
 loop-less : tie.Need-loop-less Inv-loop μ-loop
 loop-less c =
-    let held = filled-full (c .before .before .before .before .before .before .before .before .before .before .before .before .before .before .args .s .now) (c .before .before .before .before .before .before .before .before .before .before .before .before .loop .i) _ _ (c .before .before .before .before .before .before .before .before .before .fill .result) (c .before .before .before .before .before .before .before .before .before .fill .ensures) (c .before .before .before .before .before .n .given .0 .0) (c .before .before .before .before .before .n .given .1) in
-    let on : c .before .before .before .before .before .before .before .before .before .before .before .before .loop .i + block ≤ c .before .before .before .before .before .n .given .0 .0 = held .onward in
-    let inside : c .before .before .before .before .before .before .before .before .before .before .before .before .loop .i < length (c .before .before .before .before .before .before .before .before .before .before .before .before .before .before .args .s .now) = held .inside (omega arith) in
+    let held = filled-full (c .before .before .before .before .before .before .before .before .before .before .before .before .before .before .before .before .before .args .s .now) (c .before .before .before .before .before .before .before .before .before .before .before .before .before .before .before .loop .i) _ _ _ (c .before .before .before .before .before .before .before .before .before .before .before .fill .result) (c .before .before .before .before .before .before .before .before .before .before .before .fill .ensures) (c .before .before .before .before .before .before .n .given .0 .0) (c .before .before .before .before .before .before .n .given .1) in
+    let on : c .before .before .before .before .before .before .before .before .before .before .before .before .before .before .before .loop .i + block ≤ c .before .before .before .before .before .before .n .given .0 .0 = held .onward in
+    let inside : c .before .before .before .before .before .before .before .before .before .before .before .before .before .before .before .loop .i < length (c .before .before .before .before .before .before .before .before .before .before .before .before .before .before .before .before .before .args .s .now) = held .inside (omega arith) in
     omega arith
 
 loop-again : tie.Need-loop-again Inv-loop μ-loop
 loop-again c =
-    let fill = c .before .before .before .before .before .before .before .before .before .fill in
-    let loop = c .before .before .before .before .before .before .before .before .before .before .before .before .loop in
-    let held = filled-full (c .before .before .before .before .before .before .before .before .before .before .before .before .before .before .args .s .now) (c .before .before .before .before .before .before .before .before .before .before .before .before .loop .i) _ _ (c .before .before .before .before .before .before .before .before .before .fill .result) (c .before .before .before .before .before .before .before .before .before .fill .ensures) (c .before .before .before .before .before .n .given .0 .0) (c .before .before .before .before .before .n .given .1) in (
+    let fill = c .before .before .before .before .before .before .before .before .before .before .before .fill in
+    let loop = c .before .before .before .before .before .before .before .before .before .before .before .before .before .before .before .loop in
+    let held = filled-full (c .before .before .before .before .before .before .before .before .before .before .before .before .before .before .before .before .before .args .s .now) (c .before .before .before .before .before .before .before .before .before .before .before .before .before .before .before .loop .i) _ _ _ (c .before .before .before .before .before .before .before .before .before .before .before .fill .result) (c .before .before .before .before .before .before .before .before .before .before .before .fill .ensures) (c .before .before .before .before .before .before .n .given .0 .0) (c .before .before .before .before .before .before .n .given .1) in (
       fill .kept .1 .1 .0 ∙ loop .inv .0,
       fill .kept .1 .1 .1 .0 ∙ loop .inv .1,
-      blocks-on (c .before .before .before .before .before .before .before .before .before .before .before .before .before .before .args .s .now) (loop .i) (c .before .before .before .before .before .n .given .0 .0) _ _ held (loop .first) (c .before .follow .result) (c .first-of .result) _ (c .before .follow .ensures) (c .first-of .ensures) (loop .inv .2),
+      blocks-on (c .before .before .before .before .before .before .before .before .before .before .before .before .before .before .before .before .before .args .s .now) (loop .i) (c .before .before .before .before .before .before .n .given .0 .0) _ _ _ held (loop .first) (c .before .follow .result) (c .first-of .result) _ (c .before .follow .ensures) (c .first-of .ensures) (loop .inv .2),
     )
 
 returns : tie.Need-returns Inv-loop μ-loop
 returns c =
-    let fill = c .before .before .before .before .before .before .fill in
-    let loop = c .before .before .before .before .before .before .before .before .before .loop in
+    let fill = c .before .before .before .before .before .before .before .fill in
+    let loop = c .before .before .before .before .before .before .before .before .before .before .before .loop in
     c .first-of2 .ensures
-    ∙ ap (sooner (loop .first)) (sym (filled-ends (c .before .before .before .before .before .before .before .before .before .before .before .args .s .now) (loop .i) _ _ (fill .result) (fill .ensures) (c .before .before .e .given .0 .0) (c .before .before .e .given .1)))
+    ∙ ap (sooner (loop .first)) (sym (filled-ends (c .before .before .before .before .before .before .before .before .before .before .before .before .before .args .s .now) (loop .i) _ _ _ (fill .result) (fill .ensures) (c .before .before .e .given .0 .0) (c .before .before .e .given .1)))
     ∙ loop .inv .2
 
 returns-2 : tie.Need-returns-2 Inv-loop μ-loop
 returns-2 c =
-    let fill = c .before .before .before .before .before .before .fill in
-    let loop = c .before .before .before .before .before .before .before .before .before .loop in
+    let fill = c .before .before .before .before .before .before .before .fill in
+    let loop = c .before .before .before .before .before .before .before .before .before .before .before .loop in
     c .first-of3 .ensures
-    ∙ ap (sooner (loop .first)) (sym (filled-breaks (c .before .before .before .before .before .before .before .before .before .before .before .args .s .now) (loop .i) _ _ (fill .result) (fill .ensures) (c .before .before .p .given .0 .0) (c .before .before .p .given .1)))
+    ∙ ap (sooner (loop .first)) (sym (filled-breaks (c .before .before .before .before .before .before .before .before .before .before .before .before .before .args .s .now) (loop .i) _ _ _ (fill .result) (fill .ensures) (c .before .before .p .given .0 .0) (c .before .before .p .given .1)))
     ∙ loop .inv .2
 
 pub many-spec : {M : Type 1} → statement M
@@ -69,7 +69,9 @@ many-spec =
     loop-holds
     (λ c. search needs)
     (λ c. search needs)
+    (λ c. search needs)
     fill-requires
+    (λ c. search needs)
     (λ c. search needs)
     (λ c. search needs)
     (λ c. search needs)

@@ -13,12 +13,12 @@ use Rattle.tags.proofs.twice.turn.Tie as tie
 
 returns : tie.Need-returns
 returns c =
-    let args = c .before .before .before .before .before .before .args in
+    let args = c .before .before .before .before .before .before .before .args in
     by-plain (among (args .s .now) (args .places .now) (args .n)) (args .s .now) (args .at) (ap isSpace (sym (c .before .before .byte-at .ensures)) ∙ sym (c .before .is-space .ensures) ∙ not-true _ (c .if1 .taken))
 
 returns-2 : tie.Need-returns-2
 returns-2 c =
-    let args = c .before .before .before .before .before .before .before .before .before .before .args in
+    let args = c .before .before .before .before .before .before .before .before .before .before .before .args in
     let space-end = c .before .before .before .space-end in
     let spaced : isSpace (byteAt (args .s .now) (args .at)) ≡ true = ap isSpace (sym (c .before .before .before .before .before .before .byte-at .ensures)) ∙ sym (c .before .before .before .before .before .is-space .ensures) ∙ not-false _ (c .before .before .before .before .if1 .left) in
     by-ends (among (args .s .now) (args .places .now) (args .n)) (args .s .now) (args .at) spaced (space-end .result) (space-end .ensures)
@@ -26,7 +26,7 @@ returns-2 c =
 
 returns-3 : tie.Need-returns-3
 returns-3 c =
-    let args = c .before .before .before .before .before .before .before .before .before .before .before .before .args in
+    let args = c .before .before .before .before .before .before .before .before .before .before .before .before .before .args in
     let space-end = c .before .before .before .before .before .space-end in
     let s = args .s .now in
     let k = space-end .result in
@@ -36,7 +36,7 @@ returns-3 c =
 
 returns-4 : tie.Need-returns-4
 returns-4 c =
-    let args = c .before .before .before .before .before .before .before .before .before .before .before .before .before .before .before .before .args in
+    let args = c .before .before .before .before .before .before .before .before .before .before .before .before .before .before .before .before .before .args in
     let space-end = c .before .before .before .before .before .before .before .before .before .space-end in
     let s = args .s .now in
     let k = space-end .result in
@@ -47,7 +47,7 @@ returns-4 c =
 
 returns-5 : tie.Need-returns-5
 returns-5 c =
-    let args = c .before .before .before .before .before .before .before .before .before .before .before .before .before .before .before .before .args in
+    let args = c .before .before .before .before .before .before .before .before .before .before .before .before .before .before .before .before .before .args in
     let space-end = c .before .before .before .before .before .before .before .before .before .space-end in
     let s = args .s .now in
     let k = space-end .result in
