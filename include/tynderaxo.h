@@ -87,7 +87,7 @@ typedef struct {
 
 /*
  * Reads a text of one document or several, each of them one bulk, into a sheet for tynderaxo_judge. Bytes of sheet after its
- * length stay as they were. A sheet has 4 bytes, 69 for each bulk and 81 for each message. It takes some six kilobytes of stack,
+ * length stay as they were. A sheet has 4 bytes, 69 for each bulk and 81 for each message. It takes some twelve kilobytes of stack,
  * however long the text is and however deep its elements stand.
  */
 tynderaxo_read_answer tynderaxo_read(const uint8_t *document, size_t document_len, uint8_t *sheet, size_t sheet_len);
