@@ -44,6 +44,26 @@ typedef struct {
  * Judges the sheet on the date (as the number YYYYMMDD). Where it is judged, accepted identifiers are added to the
  * register, accepted amounts move between positions, and the report's first `length` bytes hold the outcome; report
  * bytes after those, and register entries not yet in use, stay as they were.
+ *
+ * The report is the number of bulks in 4 bytes and a line of 64 bytes for each, then for each bulk the number of its messages in
+ * 4 bytes and a line of 38 bytes for each:
+ *   bulk      identifier 35, outcome 1, faults 2, accepted number 4 and cents 8, rejected number 4 and cents 10
+ *             outcome 0: all messages accepted, 1: some, 2: none
+ *   message   identifier 35, outcome 1, faults 2
+ *             outcome 0: accepted, 1: rejected, 2: fell with its bulk
+ *
+ * A fault is a bit of the faults, the lowest being bit 0; each is set if it holds, whatever the others are.
+ *   bit  of a bulk                                          of a message
+ *    0   marks other than CLRG and EKS alone                identifier badly formed
+ *    1   the sender is no participant on the date           the sender's identifier was accepted before
+ *    2   value date is not the date                         receiver badly formed
+ *    3   identifier badly formed                            receiver not reachable on the date
+ *    4   the sender's identifier was accepted before        amount not from 1 to 99,999,999,999 cents
+ *    5   no messages                                        payment: tells of an original amount, reason or name
+ *    6   stated number is not the actual one                return: reason not of the list
+ *    7   stated sum is not the true one                     return: original name not of the list
+ *    8                                                      return: more than the original amount, or with another
+ *                                                           reason than FOCR less than it
  */
 tynderaxo_answer tynderaxo_judge(uint32_t date,
                                  const uint8_t *sheet, size_t sheet_len,

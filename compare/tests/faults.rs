@@ -170,8 +170,25 @@ fn returns_name_their_original() {
     for name in ["", "pacs.008", "pacs.008.001.09", "pacs.004.001.09", "PACS.008.001.08"] {
         assert_eq!(faults(5, "AC01", name), 128, "{name}");
     }
-    assert_eq!(faults(4, "FOCR", "pacs.008.001.08"), 256);
+    assert_eq!(faults(4, "AC01", "pacs.008.001.08"), 256);
     assert_eq!(faults(6, "AC01", "pacs.008.001.08"), 256);
+}
+
+#[test]
+fn only_a_cancelled_payment_comes_back_with_a_charge_taken_off() {
+    let faults = |amount, original, reason| {
+        return_faults(returned("R1", "BBBBLV22XXX", amount, original, reason, "pacs.008.001.08"))
+    };
+    assert_eq!([5, 4, 1, 6, 0].map(|amount| faults(amount, 5, "FOCR")), [0, 0, 0, 256, 16]);
+    assert_eq!([5, 4, 1, 6, 0].map(|amount| faults(amount, 5, "RR04")), [0, 256, 256, 256, 272]);
+    assert_eq!(["", "FOCS", "focr", "FOC", " FOC"].map(|reason| faults(4, 5, reason)), [320; 5]);
+    assert_eq!(["", "FOCS", "focr", "FOC", " FOC"].map(|reason| faults(5, 5, reason)), [64; 5]);
+    assert_eq!(faults(0, 0, "FOCR"), 16);
+    assert_eq!(faults(100_000_000_000, 99_999_999_999, "FOCR"), 272);
+    assert_eq!([1 << 32, 1 << 63, u64::MAX].map(|original| faults(1, original, "FOCR")), [0; 3]);
+    assert_eq!(faults(1 << 32, 1, "FOCR"), 256);
+    let payment = returned("T1", "BBBBLV22XXX", 6, 5, "FOCR", "pacs.008.001.08");
+    assert_eq!(message_faults(payment), 32);
 }
 
 #[test]

@@ -49,6 +49,9 @@ const ODD_AMOUNTS: [u64; 10] = [
     1 << 40,
 ];
 
+/// The reason that allows a return of less.
+pub const CHARGED: &[u8; 4] = b"FOCR";
+
 impl Maker<'_> {
     /// A calendar date, as a call mostly has it.
     pub fn date(random: &mut Random) -> u32 {
@@ -153,13 +156,27 @@ impl Maker<'_> {
         }
     }
 
-    /// The number itself, or one that differs a little, in a high byte, or altogether.
+    /// The number itself, or another.
     pub fn stated(&mut self, number: u64) -> u64 {
-        if !self.spoils() {
-            return number;
+        if self.spoils() {
+            self.other(number)
+        } else {
+            number
         }
+    }
+
+    /// A number that differs a little, in a high byte, or altogether.
+    fn other(&mut self, number: u64) -> u64 {
         let other =
             [number.wrapping_add(1), number.wrapping_sub(1), number ^ 1 << 32, number ^ 1 << 63, 0, u64::MAX];
         self.random.pick(&other)
+    }
+
+    /// What was paid of which this amount comes back: for the reason that allows less, often another amount.
+    pub fn original(&mut self, amount: u64, reason: &[u8; 4]) -> u64 {
+        if reason == CHARGED && self.random.one_in(2) {
+            return self.other(amount);
+        }
+        self.stated(amount)
     }
 }

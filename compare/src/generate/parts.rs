@@ -1,5 +1,6 @@
 //! Records and sections made of fields.
 
+use super::fields::CHARGED;
 use super::Maker;
 use crate::call::report_length;
 use crate::records::{padded, write_section, Bulk, Entry, Header, Message, Record, Row};
@@ -112,9 +113,10 @@ impl Maker<'_> {
         let (identifier, receiver) = (self.identifier(), self.bic());
         let blank =
             Message { identifier, receiver, amount, original: 0, reason: padded(b""), name: padded(b"") };
+        let reason = self.reason();
         let returned = Message {
-            original: self.stated(amount),
-            reason: self.reason(),
+            original: self.original(amount, &reason),
+            reason,
             name: self.name(),
             ..blank.clone()
         };
@@ -134,7 +136,7 @@ impl Maker<'_> {
     }
 
     fn reason(&mut self) -> [u8; 4] {
-        let good = *self.random.pick(&REASONS);
+        let good = if self.random.one_in(4) { *CHARGED } else { *self.random.pick(&REASONS) };
         match (self.spoils(), self.random.one_in(2)) {
             (false, _) => good,
             (true, true) => *self.random.pick(&ODD_REASONS),

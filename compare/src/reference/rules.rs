@@ -15,6 +15,8 @@ const REASONS: [&[u8; 4]; 17] = [
     b"AC01", b"AC04", b"AC06", b"AG01", b"AG02", b"AM05", b"BE04", b"CNOR", b"FOCR", b"MD07", b"MS02",
     b"MS03", b"RC01", b"RR01", b"RR02", b"RR03", b"RR04",
 ];
+/// A return for this reason answers a cancellation request.
+const CANCELLED: &[u8; 4] = b"FOCR";
 const NAMES: [&[u8; 15]; 2] = [b"pacs.008.001.08", b"pacs.008.001.02"];
 
 /// What a fault is judged by, besides the bulk or the message itself.
@@ -56,12 +58,17 @@ pub fn message_faults(known: &Known, header: &Header, message: &Message) -> u16 
         payment && names_an_original(message),
         returned && !REASONS.contains(&&message.reason),
         returned && !NAMES.contains(&&message.name),
-        returned && message.amount != message.original,
+        returned && !may_go_back(message),
     ])
 }
 
 fn names_an_original(message: &Message) -> bool {
     message.original != 0 || !blank(&message.reason) || !blank(&message.name)
+}
+
+/// The whole original amount may, and less of it where a charge may be taken off.
+fn may_go_back(message: &Message) -> bool {
+    message.amount == message.original || message.amount < message.original && &message.reason == CANCELLED
 }
 
 fn blank(field: &[u8]) -> bool {

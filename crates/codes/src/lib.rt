@@ -4,7 +4,7 @@ ghost use mathlib.Core.Path.{_≡_};
 ghost use mathlib.Core.Bool.{cond};
 ghost use Prim.Native.Nat.{_≤_};
 ghost use lib.ListN.{length};
-ghost use Rattle.wording.specs.Wording.{upper, upperOrDigit, every, bicFormed, blank, oneOf, reasons, names};
+ghost use Rattle.wording.specs.Wording.{upper, upperOrDigit, every, bicFormed, blank, oneOf, reasons, answersCancellation, names};
 
 // Whether A-Z, or 0-9 where digits may stand too, are at each place from `from` up to `to`.
 fn letters(s: &[u8], from: usize, to: usize, digits: bool) -> bool
@@ -59,6 +59,13 @@ pub fn known_reason(s: &[u8]) -> bool
         i += 1;
     }
     false
+}
+
+// Whether a text is the code of a return that answers a cancellation request.
+pub fn answers_cancellation(s: &[u8]) -> bool
+    ensures { λ r. ⌜ r ≡ answersCancellation (now (s .entry)) ⌝ }
+{
+    texts::same(s, b"FOCR")
 }
 
 // Whether a text is the name of a message that a return may answer.

@@ -104,5 +104,8 @@ module _ {M : Type 1} (𝓤 : URA M) (H : Heap 𝓤) (A : Atoms 𝓤) (mem : Mem
   pub codes·known-reason : Determined 𝓤 H A mem run codes.known_reason.ended codes.known_reason.clauses
   codes·known-reason κs a g r r' ws ws' h h' = (truth 𝓤 _ (h .told) (h' .told), refl)
 
+  pub codes·answers-cancellation : Determined 𝓤 H A mem run codes.answers_cancellation.ended codes.answers_cancellation.clauses
+  codes·answers-cancellation κs a g r r' ws ws' h h' = (truth 𝓤 _ (h .told) (h' .told), refl)
+
   pub codes·known-name : Determined 𝓤 H A mem run codes.known_name.ended codes.known_name.clauses
   codes·known-name κs a g r r' ws ws' h h' = (truth 𝓤 _ (h .told) (h' .told), refl)

@@ -98,10 +98,14 @@ abbrev pub repeatWithWrongSum : ℕ → Edge
 repeatWithWrongSum =
     edge (record { date = 20260615; kind = paymentKind; statedSum = 2; identifier = "T1"; amount = 1; original = 0; reason = ""; name = ""; used = key (text "AAAALV22") (padded identifierWidth "D1") bulkTag ∷ [] }) bulkFaultsOf
 
--- a return for a reason: the faults of its message
-abbrev pub returned : String → ℕ → Edge
-returned reason =
-    edge (record { date = 20260615; kind = returnKind; statedSum = 1; identifier = "T1"; amount = 1; original = 1; reason = reason; name = "pacs.008.001.08"; used = [] }) messageFaultsOf
+-- a message of a kind, over so many cents, that tells of an original over so many and gives a reason: its faults
+abbrev pub telling : ℕ → ℕ → ℕ → String → ℕ → Edge
+telling k a o reason =
+    edge (record { date = 20260615; kind = k; statedSum = a; identifier = "T1"; amount = a; original = o; reason = reason; name = "pacs.008.001.08"; used = [] }) messageFaultsOf
+
+-- a return of so many cents, of so many
+abbrev pub returned : ℕ → ℕ → String → ℕ → Edge
+returned = telling returnKind
 
 abbrev pub edges : List Edge
 edges =
@@ -115,5 +119,13 @@ edges =
     ∷ named "A//B" 1
     ∷ named "" 1
     ∷ repeatWithWrongSum 144
-    ∷ returned "" 64
+    ∷ returned 1 1 "" 64
+    ∷ returned 2 2 "FOCR" 0
+    ∷ returned 1 2 "FOCR" 0
+    ∷ returned 3 2 "FOCR" 256
+    ∷ returned 0 2 "FOCR" 16
+    ∷ returned 1 2 "AC04" 256
+    ∷ returned 1 2 "" 320
+    ∷ returned 1 2 "FOCS" 320
+    ∷ telling paymentKind 1 2 "FOCR" 32
     ∷ []

@@ -1,11 +1,11 @@
 -- The laws of the tests that the functions here make. Assumes nothing.
 use mathlib.Core.Path.{_≡_, refl, sym, ap, _∙_}
-use mathlib.Core.Bool.{Bool, true, false, not, _&&_}
-use Prim.Native.Nat.{ℕ, zero, suc, _+_, _*_, _/_, _%_, _^_, _<_}
+use mathlib.Core.Bool.{Bool, true, false, not, cond, _&&_}
+use Prim.Native.Nat.{ℕ, zero, suc, _+_, _*_, _/_, _%_, _^_, _<_, _≤_}
 use native.Mathlib.Nat.{zero-mul, zero-add, div-one, mod-eq-of-lt}
 use native.Mathlib.Omega.{arith}
-use lib.Dec.{eqb}
-use borrow.Author.Tests.{eqb-true, eqb-false, eq-eqb, ne-eqb}
+use lib.Dec.{ltb, eqb}
+use borrow.Author.Tests.{eqb-true, eqb-false, eq-eqb, ne-eqb, lt-ltb, le-ltb}
 use Rattle.masks.specs.Mask.{shown}
 
 -- ---- the marks
@@ -65,3 +65,18 @@ module _ (kind k : ℕ) (fact : Bool) where
 
   pub of-other-kind : (kind ≡ k → ⊥) → false ≡ (eqb kind k && fact)
   of-other-kind other = rw (ne-eqb kind k other)
+
+-- ---- what is returned of an original amount, with a charge allowed or not
+
+module _ (amount original : ℕ) where
+  pub less-returned : (charged : Bool) → amount < original → not charged ≡ cond charged (ltb original amount) (not (eqb amount original))
+  less-returned true h = sym (le-ltb original amount (omega arith))
+  less-returned false h = rw (ne-eqb amount original (λ (e : amount ≡ original). omega arith))
+
+  pub no-less-returned : (charged : Bool) → original ≤ amount → ltb original amount ≡ cond charged (ltb original amount) (not (eqb amount original))
+  no-less-returned true h = refl
+  no-less-returned false h = by-test (eqb amount original) refl
+    where
+      by-test : (t : Bool) → eqb amount original ≡ t → ltb original amount ≡ not (eqb amount original)
+      by-test true e = rw (e) (le-ltb original amount (omega (arith, eqb-true amount original e)))
+      by-test false e = rw (e) (lt-ltb original amount (omega (arith, eqb-false amount original e)))

@@ -1,13 +1,13 @@
 -- The facts against a message, each of the fields that it looks at and no more; `repeated` stands with those of a bulk. Assumes
 -- nothing.
 use Prim.Native.Nat.{ℕ}
-use mathlib.Core.Bool.{Bool, not, _&&_, _||_}
+use mathlib.Core.Bool.{Bool, not, cond, _&&_, _||_}
 use mathlib.Core.List.{List}
 use mathlib.Core.Option.{Option}
-use lib.Dec.{leb, eqb}
+use lib.Dec.{leb, ltb, eqb}
 use Rattle.routing.specs.Lookup.{reachable}
 use Rattle.sheet.specs.Sheet.{paymentKind, returnKind}
-use Rattle.wording.specs.Wording.{bicFormed, blank, oneOf, reasons, names}
+use Rattle.wording.specs.Wording.{bicFormed, blank, oneOf, reasons, answersCancellation, names}
 
 abbrev pub receiverBadlyFormed : List ℕ → Bool
 receiverBadlyFormed receiver = not (bicFormed receiver)
@@ -41,6 +41,8 @@ reasonUnknown kind reason = isReturn kind && not (oneOf reason reasons)
 abbrev pub nameUnknown : ℕ → List ℕ → Bool
 nameUnknown kind name = isReturn kind && not (oneOf name names)
 
--- a return is over the original amount
-abbrev pub amountDiffers : ℕ → ℕ → ℕ → Bool
-amountDiffers kind amount original = isReturn kind && not (eqb amount original)
+-- a return that answers a cancellation request is over no more than the original amount, since a charge may be taken off; any other
+-- is over that amount
+abbrev pub returnedWrong : ℕ → ℕ → ℕ → List ℕ → Bool
+returnedWrong kind amount original reason =
+    isReturn kind && cond (answersCancellation reason) (ltb original amount) (not (eqb amount original))
