@@ -172,8 +172,8 @@ static bool known_reason(const uint8_t *reason) {
     return false;
 }
 
-/* The reason of a return that answers a cancellation request. */
-static bool charge_allowed(const uint8_t *reason) {
+/* Whether a return for this reason may be less by a charge. */
+static bool answers_cancellation(const uint8_t *reason) {
     return memcmp(reason, "FOCR", 4) == 0;
 }
 
@@ -241,7 +241,7 @@ static uint16_t message_faults(const bulk *b, const uint8_t *message, const uint
                     | (payment && (original != 0 || !blank(reason, 4) || !blank(name, 15))) << 5
                     | (returned && !known_reason(reason)) << 6
                     | (returned && !known_name(name)) << 7
-                    | (returned && (charge_allowed(reason) ? amount > original : amount != original)) << 8);
+                    | (returned && (answers_cancellation(reason) ? amount > original : amount != original)) << 8);
 }
 
 /* ---- judging ---- */

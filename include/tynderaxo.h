@@ -50,20 +50,21 @@ typedef struct {
  *   bulk      identifier 35, outcome 1, faults 2, accepted number 4 and cents 8, rejected number 4 and cents 10
  *             outcome 0: all messages accepted, 1: some, 2: none
  *   message   identifier 35, outcome 1, faults 2
- *             outcome 0: accepted, 1: rejected, 2: fell with its bulk
+ *             outcome 0: accepted, 1: rejected, 2: fell with its bulk, and counts as rejected
  *
- * A fault is a bit of the faults, the lowest being bit 0; each is set if it holds, whatever the others are.
+ * The faults are bits, bit 0 the lowest; each is set exactly if it holds, whatever the others are. Forms and lists: docs/01-scope.md,
+ * "Wording"; what to do about each fault: README.md.
  *   bit  of a bulk                                          of a message
  *    0   marks other than CLRG and EKS alone                identifier badly formed
- *    1   the sender is no participant on the date           the sender's identifier was accepted before
+ *    1   sender no participant on the date                  sender and identifier in the register, tag 1
  *    2   value date is not the date                         receiver badly formed
  *    3   identifier badly formed                            receiver not reachable on the date
- *    4   the sender's identifier was accepted before        amount not from 1 to 99,999,999,999 cents
- *    5   no messages                                        payment: tells of an original amount, reason or name
+ *    4   sender and identifier in the register, tag 2       amount not from 1 to 99,999,999,999 cents
+ *    5   no messages                                        payment: original amount, reason or original name given
  *    6   stated number is not the actual one                return: reason not of the list
  *    7   stated sum is not the true one                     return: original name not of the list
- *    8                                                      return: more than the original amount, or with another
- *                                                           reason than FOCR less than it
+ *    8                                                      return: amount over the original amount; with another
+ *                                                           reason than FOCR, also under it
  */
 tynderaxo_answer tynderaxo_judge(uint32_t date,
                                  const uint8_t *sheet, size_t sheet_len,

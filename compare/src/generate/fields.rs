@@ -50,7 +50,7 @@ const ODD_AMOUNTS: [u64; 10] = [
 ];
 
 /// The reason that allows a return of less.
-pub const CHARGED: &[u8; 4] = b"FOCR";
+pub const ANSWERS_CANCELLATION: &[u8; 4] = b"FOCR";
 
 impl Maker<'_> {
     /// A calendar date, as a call mostly has it.
@@ -172,9 +172,9 @@ impl Maker<'_> {
         self.random.pick(&other)
     }
 
-    /// What was paid of which this amount comes back: for the reason that allows less, often another amount.
+    /// The original amount beside a returned one; for the reason that allows less, another one every second time.
     pub fn original(&mut self, amount: u64, reason: &[u8; 4]) -> u64 {
-        if reason == CHARGED && self.random.one_in(2) {
+        if reason == ANSWERS_CANCELLATION && self.random.one_in(2) {
             return self.other(amount);
         }
         self.stated(amount)

@@ -1,6 +1,6 @@
 //! Records and sections made of fields.
 
-use super::fields::CHARGED;
+use super::fields::ANSWERS_CANCELLATION;
 use super::Maker;
 use crate::call::report_length;
 use crate::records::{padded, write_section, Bulk, Entry, Header, Message, Record, Row};
@@ -136,7 +136,7 @@ impl Maker<'_> {
     }
 
     fn reason(&mut self) -> [u8; 4] {
-        let good = if self.random.one_in(4) { *CHARGED } else { *self.random.pick(&REASONS) };
+        let good = if self.random.one_in(4) { *ANSWERS_CANCELLATION } else { *self.random.pick(&REASONS) };
         match (self.spoils(), self.random.one_in(2)) {
             (false, _) => good,
             (true, true) => *self.random.pick(&ODD_REASONS),

@@ -16,7 +16,7 @@ const REASONS: [&[u8; 4]; 17] = [
     b"MS03", b"RC01", b"RR01", b"RR02", b"RR03", b"RR04",
 ];
 /// A return for this reason answers a cancellation request.
-const CANCELLED: &[u8; 4] = b"FOCR";
+const ANSWERS_CANCELLATION: &[u8; 4] = b"FOCR";
 const NAMES: [&[u8; 15]; 2] = [b"pacs.008.001.08", b"pacs.008.001.02"];
 
 /// What a fault is judged by, besides the bulk or the message itself.
@@ -68,7 +68,7 @@ fn names_an_original(message: &Message) -> bool {
 
 /// The whole original amount may, and less of it where a charge may be taken off.
 fn may_go_back(message: &Message) -> bool {
-    message.amount == message.original || message.amount < message.original && &message.reason == CANCELLED
+    message.amount == message.original || message.amount < message.original && &message.reason == ANSWERS_CANCELLATION
 }
 
 fn blank(field: &[u8]) -> bool {

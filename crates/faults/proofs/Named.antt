@@ -11,8 +11,8 @@ use Rattle.register.specs.Register.{messageTag, bulkTag}
 use Rattle.wording.specs.Wording.{badlyFormed}
 use Rattle.rules.specs.declared.Terms.{Terms}
 use Rattle.rules.specs.OfBulk.{marksWrong, noParticipant, dateWrong, repeated, empty, numberWrong, sumWrong}
-use Rattle.rules.specs.OfMessage.{receiverBadlyFormed, unreachable, amountWrong, tellsOriginal, reasonUnknown, nameUnknown, returnedWrong}
-use Rattle.faults.specs.Bits.{marksWrongBit, noParticipantBit, dateWrongBit, bulkBadlyFormedBit, bulkRepeatedBit, emptyBit, numberWrongBit, sumWrongBit, badlyFormedBit, repeatedBit, receiverBadlyFormedBit, unreachableBit, amountWrongBit, tellsOriginalBit, reasonUnknownBit, nameUnknownBit, returnedWrongBit}
+use Rattle.rules.specs.OfMessage.{receiverBadlyFormed, unreachable, amountWrong, tellsOriginal, reasonUnknown, nameUnknown, returnedAmountWrong}
+use Rattle.faults.specs.Bits.{marksWrongBit, noParticipantBit, dateWrongBit, bulkBadlyFormedBit, bulkRepeatedBit, emptyBit, numberWrongBit, sumWrongBit, badlyFormedBit, repeatedBit, receiverBadlyFormedBit, unreachableBit, amountWrongBit, tellsOriginalBit, reasonUnknownBit, nameUnknownBit, returnedAmountWrongBit}
 use Rattle.faults.specs.Faults.{senderRow, receiverRow, bulkFacts, bulkFaults, messageFacts, messageFaults}
 
 module _ (terms : Terms) (table register header : List ℕ) (number sum : ℕ) where
@@ -67,10 +67,10 @@ module _ (terms : Terms) (table register header message : List ℕ) where
     pub atTellsOriginalBit : ofMessage tellsOriginalBit ≡ tellsOriginal (kindOf header) (originalOf message) (reasonOf message) (nameOf message)
     pub atReasonUnknownBit : ofMessage reasonUnknownBit ≡ reasonUnknown (kindOf header) (reasonOf message)
     pub atNameUnknownBit : ofMessage nameUnknownBit ≡ nameUnknown (kindOf header) (nameOf message)
-    pub atReturnedWrongBit : ofMessage returnedWrongBit ≡ returnedWrong (kindOf header) (amountOf message) (originalOf message) (reasonOf message)
+    pub atReturnedAmountWrongBit : ofMessage returnedAmountWrongBit ≡ returnedAmountWrong (kindOf header) (amountOf message) (originalOf message) (reasonOf message)
 
   pub message-bits : MessageBits
-  message-bits = record { atBadlyFormedBit = refl; atRepeatedBit = refl; atReceiverBadlyFormedBit = refl; atUnreachableBit = refl; atAmountWrongBit = refl; atTellsOriginalBit = refl; atReasonUnknownBit = refl; atNameUnknownBit = refl; atReturnedWrongBit = refl }
+  message-bits = record { atBadlyFormedBit = refl; atRepeatedBit = refl; atReceiverBadlyFormedBit = refl; atUnreachableBit = refl; atAmountWrongBit = refl; atTellsOriginalBit = refl; atReasonUnknownBit = refl; atNameUnknownBit = refl; atReturnedAmountWrongBit = refl }
 
-  message-all : length (messageFacts terms table register header message) ≡ returnedWrongBit + 1
+  message-all : length (messageFacts terms table register header message) ≡ returnedAmountWrongBit + 1
   message-all = refl

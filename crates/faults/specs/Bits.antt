@@ -53,5 +53,5 @@ reasonUnknownBit = 6
 abbrev pub nameUnknownBit : ℕ
 nameUnknownBit = 7
 
-abbrev pub returnedWrongBit : ℕ
-returnedWrongBit = 8
+abbrev pub returnedAmountWrongBit : ℕ
+returnedAmountWrongBit = 8

@@ -10,7 +10,7 @@ use Rattle.register.specs.Register.{messageTag, bulkTag}
 use Rattle.wording.specs.Wording.{badlyFormed}
 use Rattle.rules.specs.declared.Terms.{Terms}
 use Rattle.rules.specs.OfBulk.{marksWrong, noParticipant, dateWrong, repeated, empty, numberWrong, sumWrong}
-use Rattle.rules.specs.OfMessage.{receiverBadlyFormed, unreachable, amountWrong, tellsOriginal, reasonUnknown, nameUnknown, returnedWrong}
+use Rattle.rules.specs.OfMessage.{receiverBadlyFormed, unreachable, amountWrong, tellsOriginal, reasonUnknown, nameUnknown, returnedAmountWrong}
 
 -- ---- the rows
 
@@ -51,7 +51,7 @@ messageFacts terms table register header message =
     ∷ tellsOriginal (kindOf header) (originalOf message) (reasonOf message) (nameOf message)
     ∷ reasonUnknown (kindOf header) (reasonOf message)
     ∷ nameUnknown (kindOf header) (nameOf message)
-    ∷ returnedWrong (kindOf header) (amountOf message) (originalOf message) (reasonOf message)
+    ∷ returnedAmountWrong (kindOf header) (amountOf message) (originalOf message) (reasonOf message)
     ∷ []
 
 unfoldable pub messageFaults : Terms → List ℕ → List ℕ → List ℕ → List ℕ → ℕ

@@ -44,7 +44,7 @@ pub const REASON_UNKNOWN: u16 = 6;
 
 pub const NAME_UNKNOWN: u16 = 7;
 
-pub const RETURNED_WRONG: u16 = 8;
+pub const RETURNED_AMOUNT_WRONG: u16 = 8;
 
 // The faults of a bulk, whose section holds so many messages with amounts of so many cents.
 pub fn bulk_faults(
@@ -107,7 +107,12 @@ pub fn message_faults(
     let tells_original = rules::tells_original(kind, message.original, reason, name);
     let reason_unknown = rules::reason_unknown(kind, reason);
     let name_unknown = rules::name_unknown(kind, name);
-    let returned_wrong = rules::returned_wrong(kind, message.amount, message.original, reason);
+    let returned_amount_wrong = rules::returned_amount_wrong(
+        kind,
+        message.amount,
+        message.original,
+        reason,
+    );
     let m = masks::flag(0, BADLY_FORMED, badly_formed);
     let m = masks::flag(m, REPEATED, repeated);
     let m = masks::flag(m, RECEIVER_BADLY_FORMED, receiver_badly_formed);
@@ -116,5 +121,5 @@ pub fn message_faults(
     let m = masks::flag(m, TELLS_ORIGINAL, tells_original);
     let m = masks::flag(m, REASON_UNKNOWN, reason_unknown);
     let m = masks::flag(m, NAME_UNKNOWN, name_unknown);
-    masks::flag(m, RETURNED_WRONG, returned_wrong)
+    masks::flag(m, RETURNED_AMOUNT_WRONG, returned_amount_wrong)
 }

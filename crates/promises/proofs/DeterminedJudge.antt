@@ -64,8 +64,8 @@ module _ {M : Type 1} (𝓤 : URA M) (H : Heap 𝓤) (A : Atoms 𝓤) (mem : Mem
   pub rules·name-unknown : Determined 𝓤 H A mem run rules.name_unknown.ended rules.name_unknown.clauses
   rules·name-unknown κs a g r r' ws ws' h h' = (truth 𝓤 _ (h .told) (h' .told), refl)
 
-  pub rules·returned-wrong : Determined 𝓤 H A mem run rules.returned_wrong.ended rules.returned_wrong.clauses
-  rules·returned-wrong κs a g r r' ws ws' h h' = (truth 𝓤 _ (h .told) (h' .told), refl)
+  pub rules·returned-amount-wrong : Determined 𝓤 H A mem run rules.returned_amount_wrong.ended rules.returned_amount_wrong.clauses
+  rules·returned-amount-wrong κs a g r r' ws ws' h h' = (truth 𝓤 _ (h .told) (h' .told), refl)
 
   -- ---- faults
 

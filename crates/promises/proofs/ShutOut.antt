@@ -16,11 +16,11 @@ use Rattle.routing.specs.Written.{tableBytes}
 use Rattle.register.specs.Register.{key, bulkTag, tagPlace, used}
 use Rattle.register.specs.Written.{registerBytes}
 use Rattle.positions.specs.Written.{positionsBytes}
-use Rattle.sheet.specs.Sheet.{identifierWidth, Bulk, paymentKind}
-use Rattle.sheet.specs.Written.{headerBytes, paymentBytes, sheetBytes}
+use Rattle.sheet.specs.Sheet.{identifierWidth, Bulk, paymentKind, returnKind}
+use Rattle.sheet.specs.Written.{headerBytes, messageBytes, paymentBytes, sheetBytes}
 use Rattle.rules.specs.declared.Terms.{Terms}
 use Rattle.rules.specs.Terms.{dated}
-use Rattle.faults.specs.Bits.{sumWrongBit}
+use Rattle.faults.specs.Bits.{sumWrongBit, returnedAmountWrongBit}
 use Rattle.report.specs.Line.{bulkLineWidth, reportLength}
 use Rattle.messages.specs.Messages.{State}
 use Rattle.refusing.specs.Refusals.{Call}
@@ -76,6 +76,14 @@ partial = sheetBytes (bulk "D1" 2 2 (message "T1" ∷ message "T1" ∷ []) ∷ [
 -- two bulks, the second of which falls
 abbrev two : List ℕ
 two = sheetBytes (bulk "D1" 1 1 (message "T1" ∷ []) ∷ bulk "D2" 1 2 (message "T2" ∷ []) ∷ [])
+
+-- one bulk of a return of so many cents, of an original of so many, for a reason
+abbrev returned : ℕ → ℕ → String → List ℕ
+returned amount original reason =
+    sheetBytes (record {
+      header = headerBytes returnKind "D1" "AAAALV22" 1 amount 20260615 3;
+      messages = messageBytes "R1" "BBBBLV22XXX" amount original reason "pacs.008.001.08" ∷ [];
+    } ∷ [])
 
 abbrev pub today : Terms
 today = dated 20260615
@@ -161,6 +169,12 @@ shut-out =
       copiesTheFirstLine = λ s. zero-is-one (sym (s (callOn two) (in-bytes two refl) refl .bulks .1 .0 .acceptedNumber));
       makesUpTheNumber = λ s. zero-is-one (ap (λ (n : ℕ). 2 - n) (s (callOn partial) (in-bytes partial refl) refl .bulks .0 .acceptedNumber));
       hidesBesideARepeat = λ s. false≢true (s repeated repeated-in-bytes refl .bulks .0 .faults sumWrongBit);
+      wholeIsMore = λ s.
+          false≢true (sym (s (callOn (returned 2 2 "FOCR")) (in-bytes (returned 2 2 "FOCR") refl) refl .bulks .0 .messages .0 .faults returnedAmountWrongBit));
+      noChargeAllowed = λ s.
+          false≢true (sym (s (callOn (returned 1 2 "FOCR")) (in-bytes (returned 1 2 "FOCR") refl) refl .bulks .0 .messages .0 .faults returnedAmountWrongBit));
+      anyReasonAllows = λ s.
+          false≢true (s (callOn (returned 1 2 "AC04")) (in-bytes (returned 1 2 "AC04") refl) refl .bulks .0 .messages .0 .faults returnedAmountWrongBit);
       leavesNoBulk = λ s. zero-is-one (ap (λ (n : ℕ). n - 1) (s (callOn one) (in-bytes one refl) refl .number));
       leavesTheBulkFirst = λ s. zero-is-one (ap (λ (es : List (List ℕ)). 2 - tagOf es) (s (callOn one) (in-bytes one refl) refl .entries));
       writesPastTheEntries = λ s. zero-is-one (sym (ap (λ (e : List ℕ). getD e 0 0) (s (callOn one) (in-bytes one refl) refl .laterPlaces 2 (lit≤ tt))));
@@ -175,4 +189,5 @@ shut-out =
       recordsNoBulk = λ s. zero-is-one (ap (λ (es : List (List ℕ)). length es - 1) (s today table start (file one ∷ []) no-cents .recorded));
       recordsTheBulkFirst = λ s. zero-is-one (ap (λ (es : List (List ℕ)). 2 - tagOf es) (s today table start (file one ∷ []) no-cents .recorded));
       movesTheStatedSum = λ s. zero-is-one (ap (λ (k : ℤ). 2 - natAbs k) (s today table start (file partial ∷ []) no-cents .positions 1));
+      movesTheOriginal = λ s. zero-is-one (ap (λ (k : ℤ). 2 - natAbs k) (s today table start (file (returned 1 2 "FOCR") ∷ []) no-cents .positions 1));
     }

@@ -103,7 +103,7 @@ abbrev pub telling : ℕ → ℕ → ℕ → String → ℕ → Edge
 telling k a o reason =
     edge (record { date = 20260615; kind = k; statedSum = a; identifier = "T1"; amount = a; original = o; reason = reason; name = "pacs.008.001.08"; used = [] }) messageFaultsOf
 
--- a return of so many cents, of so many
+-- a return of so many cents, of an original of so many, for a reason
 abbrev pub returned : ℕ → ℕ → String → ℕ → Edge
 returned = telling returnKind
 
@@ -125,7 +125,8 @@ edges =
     ∷ returned 3 2 "FOCR" 256
     ∷ returned 0 2 "FOCR" 16
     ∷ returned 1 2 "AC04" 256
+    ∷ returned 3 2 "AC04" 256
     ∷ returned 1 2 "" 320
     ∷ returned 1 2 "FOCS" 320
-    ∷ telling paymentKind 1 2 "FOCR" 32
+    ∷ telling paymentKind 3 2 "FOCR" 32
     ∷ []

@@ -1,17 +1,19 @@
 -- Judges that must be shut out, most of them the right one but for what their name says. Assumes nothing.
-use Prim.Native.Nat.{ℕ, _+_, _-_, _^_}
+use Prim.Native.Nat.{ℕ, _+_, _-_, _^_, _%_}
 use mathlib.Core.Path.{_≡_}
-use mathlib.Core.Bool.{cond}
+use mathlib.Core.Bool.{Bool, not, cond, _&&_}
 use mathlib.Core.List.{List, [], _∷_, _++_, map}
 use lib.ListN.{length, getD}
 use lib.Seq.{sets}
-use lib.Dec.{eqb, ltb}
+use lib.Dec.{eqb, leb, ltb}
 use Rattle.wire.specs.Field.{part, bytesOf}
 use Rattle.masks.specs.Mask.{shown}
-use Rattle.sheet.specs.Sheet.{Bulk, bulksOf, bulkCount, senderOf, identifierOf, statedSumOf}
+use Rattle.sheet.specs.Sheet.{Bulk, bulksOf, bulkCount, kindOf, senderOf, identifierOf, statedSumOf, amountOf, originalOf, reasonOf}
 use Rattle.register.specs.Register.{key, messageTag, usedWidth, used, entryPlace, add}
 use Rattle.positions.specs.Positions.{pays}
-use Rattle.faults.specs.Bits.{bulkRepeatedBit}
+use Rattle.wording.specs.Wording.{answersCancellation}
+use Rattle.rules.specs.OfMessage.{isReturn}
+use Rattle.faults.specs.Bits.{bulkRepeatedBit, returnedAmountWrongBit}
 use Rattle.faults.specs.Faults.{senderRow, receiverRow}
 use Rattle.report.specs.Line.{faultsPlace, faultsWidth, acceptedNumberPlace, numberWidth, bulkLineWidth, outcomeIn, faultsIn, countWidth, firstLine, sectionsPlace, linesAt, afterLines}
 use Rattle.messages.specs.Messages.{messageFell}
@@ -84,6 +86,31 @@ hidesBesideARepeat call =
     (withReport left (sets (left .report) (firstLine + faultsPlace) (bytesOf faultsWidth (2 ^ bulkRepeatedBit))))
     left) call
 
+-- the first message shows whether its returned amount is wrong by another rule, of kind, amount, original amount and reason
+abbrev pub judgesReturnsBy : (ℕ → ℕ → ℕ → List ℕ → Bool) → Judge
+judgesReturnsBy rule call =
+    let header = firstBulk call .header in
+    let message = firstMessage call in
+    let line = linesAt (sectionsPlace (bulkCount (call .sheet))) in
+    whereJudged (λ left.
+    withReport left (sets (left .report) (line + faultsPlace)
+    (bytesOf faultsWidth
+    (faultsIn (messageLineFrom (left .report) line) % 2 ^ returnedAmountWrongBit
+    + cond (rule (kindOf header) (amountOf message) (originalOf message) (reasonOf message)) (2 ^ returnedAmountWrongBit) 0)))) call
+
+-- the whole original amount counts as more
+abbrev pub wholeIsMore : ℕ → ℕ → ℕ → List ℕ → Bool
+wholeIsMore kind amount original reason =
+    isReturn kind && cond (answersCancellation reason) (leb original amount) (not (eqb amount original))
+
+-- less is a fault with every reason
+abbrev pub noChargeAllowed : ℕ → ℕ → ℕ → List ℕ → Bool
+noChargeAllowed kind amount original reason = isReturn kind && not (eqb amount original)
+
+-- less is a fault with none
+abbrev pub anyReasonAllows : ℕ → ℕ → ℕ → List ℕ → Bool
+anyReasonAllows kind amount original reason = isReturn kind && ltb original amount
+
 -- no key of a bulk is added
 abbrev pub recordsNoBulk : Judge
 recordsNoBulk call = whereJudged (λ left. withRegister left (withKeys (call .register) (map paymentKey (accepted (call .sheet) left)))) call
@@ -145,13 +172,20 @@ recordsTheFallen call =
 abbrev pub recordsNothing : Judge
 recordsNothing call = whereJudged (λ left. withRegister left (call .register)) call
 
--- what moves is the sum that the first bulk states, and not what was accepted
-abbrev pub movesTheStatedSum : Judge
-movesTheStatedSum call =
+-- what moves from the first bulk's sender to its first message's receiver is something else than what was accepted
+abbrev pub moves : (Call → ℕ) → Judge
+moves cents call =
     whereJudged (λ left.
     withPositions left
-    (pays (call .positions) (senderRow (call .terms) (call .table) (firstBulk call .header)) (receiverRow (call .terms) (call .table) (firstMessage call))
-    (statedSumOf (firstBulk call .header)))) call
+    (pays (call .positions) (senderRow (call .terms) (call .table) (firstBulk call .header)) (receiverRow (call .terms) (call .table) (firstMessage call)) (cents call))) call
+
+-- the sum that the bulk states
+abbrev pub movesTheStatedSum : Judge
+movesTheStatedSum = moves (λ call. statedSumOf (firstBulk call .header))
+
+-- the original amount
+abbrev pub movesTheOriginal : Judge
+movesTheOriginal = moves (λ call. originalOf (firstMessage call))
 
 -- ---- which statement refuses which
 
@@ -164,6 +198,9 @@ pub record ShutOut : Type 0 where
   pub copiesTheFirstLine : EveryLineTells copiesTheFirstLine → ⊥
   pub makesUpTheNumber : EveryLineTells makesUpTheNumber → ⊥
   pub hidesBesideARepeat : EveryLineTells hidesBesideARepeat → ⊥
+  pub wholeIsMore : EveryLineTells (judgesReturnsBy wholeIsMore) → ⊥
+  pub noChargeAllowed : EveryLineTells (judgesReturnsBy noChargeAllowed) → ⊥
+  pub anyReasonAllows : EveryLineTells (judgesReturnsBy anyReasonAllows) → ⊥
   pub leavesNoBulk : LeavesTheRest recordsNoBulk → ⊥
   pub leavesTheBulkFirst : LeavesTheRest recordsTheBulkFirst → ⊥
   pub writesPastTheEntries : LeavesTheRest writesPastTheEntries → ⊥
@@ -177,3 +214,4 @@ pub record ShutOut : Type 0 where
   pub recordsNoBulk : RunsAsPromised recordsNoBulk → ⊥
   pub recordsTheBulkFirst : RunsAsPromised recordsTheBulkFirst → ⊥
   pub movesTheStatedSum : RunsAsPromised movesTheStatedSum → ⊥
+  pub movesTheOriginal : RunsAsPromised movesTheOriginal → ⊥

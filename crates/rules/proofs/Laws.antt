@@ -69,11 +69,11 @@ module _ (kind k : ℕ) (fact : Bool) where
 -- ---- what is returned of an original amount, with a charge allowed or not
 
 module _ (amount original : ℕ) where
-  pub less-returned : (charged : Bool) → amount < original → not charged ≡ cond charged (ltb original amount) (not (eqb amount original))
+  pub less-returned : (allowed : Bool) → amount < original → not allowed ≡ cond allowed (ltb original amount) (not (eqb amount original))
   less-returned true h = sym (le-ltb original amount (omega arith))
   less-returned false h = rw (ne-eqb amount original (λ (e : amount ≡ original). omega arith))
 
-  pub no-less-returned : (charged : Bool) → original ≤ amount → ltb original amount ≡ cond charged (ltb original amount) (not (eqb amount original))
+  pub no-less-returned : (allowed : Bool) → original ≤ amount → ltb original amount ≡ cond allowed (ltb original amount) (not (eqb amount original))
   no-less-returned true h = refl
   no-less-returned false h = by-test (eqb amount original) refl
     where

@@ -41,8 +41,8 @@ reasonUnknown kind reason = isReturn kind && not (oneOf reason reasons)
 abbrev pub nameUnknown : ℕ → List ℕ → Bool
 nameUnknown kind name = isReturn kind && not (oneOf name names)
 
--- a return that answers a cancellation request is over no more than the original amount, since a charge may be taken off; any other
--- is over that amount
-abbrev pub returnedWrong : ℕ → ℕ → ℕ → List ℕ → Bool
-returnedWrong kind amount original reason =
+-- a return that answers a cancellation request is over the original amount or less, since a charge may be taken off; any other is over
+-- exactly that amount
+abbrev pub returnedAmountWrong : ℕ → ℕ → ℕ → List ℕ → Bool
+returnedAmountWrong kind amount original reason =
     isReturn kind && cond (answersCancellation reason) (ltb original amount) (not (eqb amount original))

@@ -5,7 +5,7 @@ ghost use Rattle.routing.specs.Lookup.{optionOf};
 ghost use Rattle.register.specs.Room.{Parts};
 ghost use Rattle.tally.specs.Tally.{centsOf};
 ghost use Rattle.rules.specs.OfBulk.{marksWrong, noParticipant, dateWrong, repeated, empty, numberWrong, sumWrong};
-ghost use Rattle.rules.specs.OfMessage.{receiverBadlyFormed, unreachable, amountWrong, tellsOriginal, reasonUnknown, nameUnknown, returnedWrong};
+ghost use Rattle.rules.specs.OfMessage.{receiverBadlyFormed, unreachable, amountWrong, tellsOriginal, reasonUnknown, nameUnknown, returnedAmountWrong};
 use routing::Found;
 use tally::Cents;
 
@@ -139,8 +139,8 @@ pub fn name_unknown(kind: u8, name: &[u8]) -> bool
 
 // Whether a return is over more than the original, or over less where no charge may be taken off. The reason is looked at only where
 // it decides.
-pub fn returned_wrong(kind: u8, amount: u64, original: u64, reason: &[u8]) -> bool
-    ensures { λ r. ⌜ r ≡ returnedWrong kind amount original (now (reason .entry)) ⌝ }
+pub fn returned_amount_wrong(kind: u8, amount: u64, original: u64, reason: &[u8]) -> bool
+    ensures { λ r. ⌜ r ≡ returnedAmountWrong kind amount original (now (reason .entry)) ⌝ }
 {
     if kind == sheet::RETURN {
         if amount < original {

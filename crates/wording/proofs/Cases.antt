@@ -6,7 +6,7 @@ use Prim.Native.Nat.{ℕ, _-_}
 use Prim.Native.String.{String}
 use lib.ListN.{length, replicate}
 use Rattle.wire.specs.Field.{text}
-use Rattle.wording.specs.Wording.{badlyFormed, bicFormed, blank, oneOf, reasons, names}
+use Rattle.wording.specs.Wording.{badlyFormed, bicFormed, blank, oneOf, reasons, answersCancellation, names}
 use Rattle.wording.proofs.Computing.{wordingComputes}
 
 -- what a test says of a text, and what it has to say
@@ -36,6 +36,9 @@ blanks s r = record { says = blank (text s); right = r }
 
 reason : String → Bool → Case
 reason s r = record { says = oneOf (text s) reasons; right = r }
+
+cancellation : String → Bool → Case
+cancellation s r = record { says = answersCancellation (text s); right = r }
 
 name : String → Bool → Case
 name s r = record { says = oneOf (text s) names; right = r }
@@ -71,6 +74,9 @@ cases =
     ∷ reason "MS02" true ∷ reason "MS03" true ∷ reason "RC01" true ∷ reason "RR01" true ∷ reason "RR02" true
     ∷ reason "RR03" true ∷ reason "RR04" true ∷ reason "AC02" false ∷ reason "    " false ∷ reason "ac01" false
     ∷ reason "AC0" false ∷ reason "AC010" false ∷ reason "RR05" false ∷ reason "" false
+    -- the one that answers a cancellation request
+    ∷ cancellation "FOCR" true ∷ cancellation "FOCS" false ∷ cancellation "focr" false ∷ cancellation "FOC" false
+    ∷ cancellation "FOCRX" false ∷ cancellation "    " false ∷ cancellation "AC01" false
     -- the names, and their likes
     ∷ name "pacs.008.001.08" true ∷ name "pacs.008.001.02" true ∷ name "pacs.008.001.03" false
     ∷ name "               " false ∷ name "pacs.004.001.02" false ∷ name "pacs.008.001.0" false
@@ -78,5 +84,5 @@ cases =
     ∷ []
 
 casesRight : map (λ c. c .says) cases ≡ map (λ c. c .right) cases
-unfolding wordingComputes cases good bad badAmid padded bic blanks reason name
+unfolding wordingComputes cases good bad badAmid padded bic blanks reason cancellation name
 casesRight = refl

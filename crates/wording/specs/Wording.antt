@@ -112,7 +112,7 @@ reasons =
     text "AC01" ∷ text "AC04" ∷ text "AC06" ∷ text "AG01" ∷ text "AG02" ∷ text "AM05" ∷ text "BE04" ∷ text "CNOR" ∷ text "FOCR"
     ∷ text "MD07" ∷ text "MS02" ∷ text "MS03" ∷ text "RC01" ∷ text "RR01" ∷ text "RR02" ∷ text "RR03" ∷ text "RR04" ∷ []
 
--- the reason of a return that answers a cancellation request, from which a charge may be taken off
+-- the reason of a return that answers a cancellation request; a charge may be taken off such a return
 abbrev pub answersCancellation : List ℕ → Bool
 answersCancellation reason = same reason (text "FOCR")
 

@@ -6,7 +6,7 @@ use Rattle.masks.proofs.Laws.{no-facts, flag-next}
 use Rattle.wording.specs.Wording.{badlyFormed}
 use Rattle.register.specs.Register.{messageTag}
 use Rattle.rules.specs.OfBulk.{repeated}
-use Rattle.rules.specs.OfMessage.{receiverBadlyFormed, unreachable, amountWrong, tellsOriginal, reasonUnknown, nameUnknown, returnedWrong}
+use Rattle.rules.specs.OfMessage.{receiverBadlyFormed, unreachable, amountWrong, tellsOriginal, reasonUnknown, nameUnknown, returnedAmountWrong}
 use Rattle.faults.specs.Faults.{messageFaults}
 use Rattle.faults.proofs.Laws.{message-parts}
 use borrow.Author.Needs.{needs}
@@ -59,7 +59,7 @@ returns c =
     let m5 = flag-next _ _ _ _ _ m4 (at5 .flag6 .ensures .0) (f5 .tells-original .ensures ∙ (λ i. tellsOriginal (kind i) (asked .read .original i) (reason i) (name i))) in
     let m6 = flag-next _ _ _ _ _ m5 (at6 .flag7 .ensures .0) (f6 .reason-unknown .ensures ∙ (λ i. reasonUnknown (kind i) (reason i))) in
     let m7 = flag-next _ _ _ _ _ m6 (at7 .flag8 .ensures .0) (f7 .name-unknown .ensures ∙ (λ i. nameUnknown (kind i) (name i))) in
-    flag-next _ _ _ _ _ m7 (c .flag9 .ensures .0) (f8 .returned-wrong .ensures ∙ (λ i. returnedWrong (kind i) (asked .read .amount i) (asked .read .original i) (reason i)))
+    flag-next _ _ _ _ _ m7 (c .flag9 .ensures .0) (f8 .returned-amount-wrong .ensures ∙ (λ i. returnedAmountWrong (kind i) (asked .read .amount i) (asked .read .original i) (reason i)))
 
 pub message-faults-spec : {M : Type 1} → statement M
 message-faults-spec =

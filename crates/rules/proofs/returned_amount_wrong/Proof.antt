@@ -1,10 +1,10 @@
--- `rules::returned_wrong` meets its contract: less than the original is asked for its reason, the rest for being more. Assumes nothing.
+-- `rules::returned_amount_wrong` meets its contract: less than the original is asked for its reason, the rest for being more. Assumes nothing.
 use Rattle.sheet.specs.Sheet.{returnKind}
 use Rattle.wording.specs.Wording.{answersCancellation}
 use Rattle.rules.proofs.Laws.{of-kind, of-other-kind, less-returned, no-less-returned}
 use borrow.Author.Needs.{needs}
-use Rattle.rules.proofs.returned_wrong.Statement.{statement}
-use Rattle.rules.proofs.returned_wrong.Tie as tie
+use Rattle.rules.proofs.returned_amount_wrong.Statement.{statement}
+use Rattle.rules.proofs.returned_amount_wrong.Tie as tie
 
 returns : tie.Need-returns
 returns c =
@@ -21,5 +21,5 @@ returns-2 c =
 returns-3 : tie.Need-returns-3
 returns-3 c = of-other-kind _ returnKind _ (c .if1 .left)
 
-pub returned-wrong-spec : {M : Type 1} → statement M
-returned-wrong-spec = tie.close (tie.spec (λ c κs. search needs) returns returns-2 returns-3)
+pub returned-amount-wrong-spec : {M : Type 1} → statement M
+returned-amount-wrong-spec = tie.close (tie.spec (λ c κs. search needs) returns returns-2 returns-3)
