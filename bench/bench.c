@@ -1,159 +1,73 @@
 /*
- * Judges one large input by the archive and by the plain judge.
- *     bench both ROWS ENTRIES BULKS MESSAGES      times both, compares their outputs, prints the two times
- *     bench WHICH ROWS ENTRIES BULKS MESSAGES     runs plain, archive or neither once, for counting instructions
+ * Judges one large input in several ways: plain and by an index, by the archive and by the plain C judges.
+ *     bench each ROWS ENTRIES BULKS MESSAGES [falling|crowded]
+ *         times each way, compares what they leave, prints the times and the slots read
+ *     bench WAY ROWS ENTRIES BULKS MESSAGES [falling|crowded]
+ *         runs one way once, for counting instructions: plain or hashed (C, the latter by a hash table), archive or
+ *         indexed (the archive's two judges), build (the archive's index once more) or none
  *
- * The input is the hard case that real files come close to: one sender, whose identifiers share their first 28 bytes;
- * receivers all over the table, every fourth of them found only by its head office's row; and every message accepted,
- * so that each one searches the whole register and makes it longer.
+ * Index and hash table are handed over built, so they are built before any way, also before none, whose count is to be
+ * taken off the others.
  */
 #include <stdio.h>
 #include <stdlib.h>
 #include <string.h>
 #include <time.h>
 
+#include "inputs.h"
 #include "plain.h"
 
-enum { ROOM = 60000, MOST_REPEATS = 5, BRANCHES = 8 };
+enum { MOST_REPEATS = 5 };
 static const double ENOUGH_SECONDS = 2;
-static const uint32_t TODAY = 20260615;
 
-typedef struct {
-    size_t rows, entries, bulks, messages;
-} sizes;
+#define LENT(in)                                                                                                       \
+    TODAY, (in)->sheet.bytes, (in)->sheet.len, (in)->table.bytes, (in)->table.len, (in)->reg.bytes, (in)->reg.len,     \
+        (in)->positions.bytes, (in)->positions.len, (in)->report.bytes, (in)->report.len
 
-typedef struct {
-    uint8_t *bytes;
-    size_t len;
-} buffer;
-
-/* What a judge is lent. The last three are written. */
-typedef struct {
-    buffer sheet, table, reg, positions, report;
-} input;
-
-typedef tynderaxo_answer (*judge)(uint32_t, const uint8_t *, size_t, const uint8_t *, size_t, uint8_t *, size_t,
-                                  uint8_t *, size_t, uint8_t *, size_t);
-
-static void fail(const char *why) {
-    fprintf(stderr, "bench: %s\n", why);
-    exit(1);
+static tynderaxo_indexed_answer without_slots(tynderaxo_answer answer) {
+    return (tynderaxo_indexed_answer){answer.number, answer.length, 0};
 }
 
-static buffer space(size_t len) {
-    buffer made = {calloc(len, 1), len};
-    if (made.bytes == NULL) fail("no memory");
-    return made;
+static tynderaxo_indexed_answer plain(input *in) { return without_slots(plain_judge(LENT(in))); }
+static tynderaxo_indexed_answer archive(input *in) { return without_slots(tynderaxo_judge(LENT(in))); }
+static tynderaxo_indexed_answer hashed(input *in) {
+    return without_slots(plain_judge_hashed(LENT(in), in->names, HASH_SLOTS));
+}
+static tynderaxo_indexed_answer indexed(input *in) {
+    return tynderaxo_judge_indexed(LENT(in), in->index.bytes, in->index.len);
+}
+static tynderaxo_indexed_answer build(input *in) {
+    uint32_t number = tynderaxo_build_index(in->reg.bytes, in->reg.len, in->index.bytes, in->index.len);
+    return (tynderaxo_indexed_answer){number, 0, 0};
+}
+static tynderaxo_indexed_answer none(input *in) {
+    (void)in;
+    return (tynderaxo_indexed_answer){0, 0, 0};
 }
 
-static uint8_t *text(uint8_t *at, const char *value, size_t width) {
-    memset(at, ' ', width);
-    memcpy(at, value, strlen(value));
-    return at + width;
+static const struct {
+    const char *name;
+    tynderaxo_indexed_answer (*run)(input *);
+    int judges;
+} ways[] = {{"plain", plain, 1},     {"archive", archive, 1}, {"hashed", hashed, 1},
+            {"indexed", indexed, 1}, {"build", build, 0},     {"none", none, 0}};
+enum { WAYS = sizeof ways / sizeof *ways, JUDGES = 4, TIMED = 5 };
+
+static input prepared(const sizes *s) {
+    input in = make_input(s);
+    plain_build_hash(in.reg.bytes, in.names, HASH_SLOTS);
+    if (build(&in).number != 0) fail("the index is not built");
+    return in;
 }
 
-static uint8_t *number(uint8_t *at, uint64_t value, int width) {
-    for (int i = width - 1; i >= 0; i--, value >>= 8) at[i] = (uint8_t)value;
-    return at + width;
-}
-
-static uint8_t *identifier(uint8_t *at, size_t index) {
-    char value[48];
-    snprintf(value, sizeof value, "SALARIES/2026-06-15/BATCH01/%07u", (unsigned)index % 10000000u);
-    return text(at, value, 35);
-}
-
-/* Banks have BRANCHES rows each, the head office first. */
-static uint8_t *bic(uint8_t *at, size_t row, const char *branch) {
-    size_t bank = row / BRANCHES;
-    char value[16], numbered[4] = {'0', '0', (char)('0' + row % BRANCHES), 0};
-    if (branch == NULL) branch = row % BRANCHES == 0 ? "XXX" : numbered;
-    snprintf(value, sizeof value, "B%c%c%cLV22%s", (int)('A' + bank / 676 % 26), (int)('A' + bank / 26 % 26),
-             (int)('A' + bank % 26), branch);
-    return text(at, value, 11);
-}
-
-static buffer make_table(const sizes *s) {
-    buffer table = space(4 + 20 * s->rows);
-    uint8_t *at = number(table.bytes, s->rows, 4);
-    for (size_t row = 0; row < s->rows; row++) {
-        at = bic(at, row, NULL);
-        at = number(at, 20260101, 4);
-        at = number(at, 20991231, 4);
-        at = number(at, row % BRANCHES == 0 ? 5 : 6, 1);
-    }
-    return table;
-}
-
-/* The bank in the middle of the table sends everything. */
-static uint8_t *sender(uint8_t *at, const sizes *s) {
-    uint8_t eleven[11];
-    bic(eleven, s->rows / 2, NULL);
-    memcpy(at, eleven, 8);
-    return at + 8;
-}
-
-static buffer make_register(const sizes *s) {
-    buffer reg = space(4 + 44 * ROOM);
-    uint8_t *at = number(reg.bytes, s->entries, 4);
-    for (size_t entry = 0; entry < s->entries; entry++) {
-        at = sender(at, s);
-        at = identifier(at, 5000000 + entry);
-        at = number(at, 1, 1);
-    }
-    return reg;
-}
-
-static uint64_t amount(size_t message) { return 100 + message % 900; }
-
-static uint8_t *make_message(uint8_t *at, const sizes *s, size_t message) {
-    size_t row = message * 7919 % s->rows;
-    at = identifier(at, message);
-    at = bic(at, row, message % 4 == 0 ? "RIX" : NULL);
-    at = number(at, amount(message), 8);
-    at = number(at, 0, 8);
-    at = text(at, "", 4);
-    return text(at, "", 15);
-}
-
-/* Messages are shared out evenly. */
-static size_t first_of(const sizes *s, size_t bulk) { return s->messages * bulk / s->bulks; }
-
-static buffer make_sheet(const sizes *s) {
-    buffer sheet = space(4 + 69 * s->bulks + 81 * s->messages);
-    uint8_t *at = number(sheet.bytes, s->bulks, 4);
-    for (size_t bulk = 0; bulk < s->bulks; bulk++) {
-        uint64_t sum = 0;
-        for (size_t message = first_of(s, bulk); message < first_of(s, bulk + 1); message++) sum += amount(message);
-        at = number(at, 1, 1);
-        at = identifier(at, 9000000 + bulk);
-        at = sender(at, s);
-        at = number(at, first_of(s, bulk + 1) - first_of(s, bulk), 8);
-        at = number(at, sum, 8);
-        at = number(at, TODAY, 4);
-        at = number(at, 3, 1);
-    }
-    for (size_t bulk = 0; bulk < s->bulks; bulk++) {
-        at = number(at, first_of(s, bulk + 1) - first_of(s, bulk), 4);
-        for (size_t message = first_of(s, bulk); message < first_of(s, bulk + 1); message++)
-            at = make_message(at, s, message);
-    }
-    return sheet;
-}
-
-static input make_input(const sizes *s) {
-    return (input){make_sheet(s), make_table(s), make_register(s), space(8 * s->rows),
-                   space(4 + 68 * s->bulks + 38 * s->messages)};
-}
-
-/* Runs a judge; a file that is not accepted to the last message is no measure of anything. */
-static void run(judge judged, const sizes *s, input *in) {
-    tynderaxo_answer answer = judged(TODAY, in->sheet.bytes, in->sheet.len, in->table.bytes, in->table.len,
-                                     in->reg.bytes, in->reg.len, in->positions.bytes, in->positions.len,
-                                     in->report.bytes, in->report.len);
+/* Runs one way; a file that is not taken as it was meant is no measure of anything. */
+static uint64_t run(int way, const sizes *s, input *in) {
+    tynderaxo_indexed_answer answer = ways[way].run(in);
     uint8_t used[4];
-    number(used, s->entries + s->bulks + s->messages, 4);
-    if (answer.number != 0 || memcmp(used, in->reg.bytes, 4) != 0) fail("the input is not accepted whole");
+    int adds = ways[way].judges && s->kind != FALLING;
+    number(used, s->entries + (adds ? s->bulks + s->messages : 0), 4);
+    if (answer.number != 0 || memcmp(used, in->reg.bytes, 4) != 0) fail("the input is not taken as it was meant");
+    return answer.slots;
 }
 
 static double processor_seconds(void) {
@@ -163,42 +77,51 @@ static double processor_seconds(void) {
 }
 
 /* The processor time of the shortest of a few runs, each on a fresh input; the last one's buffers stay in *in. */
-static double seconds(judge judged, const sizes *s, input *in) {
-    double best = 0, spent = 0;
-    for (int i = 0; i < MOST_REPEATS && spent < ENOUGH_SECONDS; i++) {
-        *in = make_input(s);
+static double seconds(int way, const sizes *s, input *in, uint64_t *slots) {
+    double best = 0, begun = processor_seconds();
+    for (int i = 0; i < MOST_REPEATS && (i == 0 || processor_seconds() - begun < ENOUGH_SECONDS); i++) {
+        if (i > 0) free_input(in);
+        *in = prepared(s);
         double from = processor_seconds();
-        run(judged, s, in);
+        *slots = run(way, s, in);
         double took = processor_seconds() - from;
         if (i == 0 || took < best) best = took;
-        spent += took;
     }
     return best;
 }
 
 static int same(buffer a, buffer b) { return a.len == b.len && memcmp(a.bytes, b.bytes, a.len) == 0; }
 
-static void run_both(const sizes *s) {
-    input plain, archive;
-    double plain_seconds = seconds(plain_judge, s, &plain);
-    double archive_seconds = seconds(tynderaxo_judge, s, &archive);
-    if (!same(plain.reg, archive.reg) || !same(plain.positions, archive.positions) || !same(plain.report, archive.report))
-        fail("the two judges differ");
-    printf("%.6f %.6f\n", plain_seconds, archive_seconds);
+static void run_each(const sizes *s) {
+    input left[TIMED];
+    uint64_t slots = 0;
+    for (int way = 0; way < TIMED; way++) {
+        uint64_t read = 0;
+        printf("%.6f ", seconds(way, s, &left[way], &read));
+        slots += read;
+    }
+    for (int way = 1; way < JUDGES; way++)
+        if (!same(left[0].reg, left[way].reg) || !same(left[0].positions, left[way].positions) ||
+            !same(left[0].report, left[way].report))
+            fail("the judges differ");
+    printf("%llu\n", (unsigned long long)slots);
 }
 
 int main(int argc, char **argv) {
-    if (argc != 6) fail("usage: bench both|plain|archive|neither ROWS ENTRIES BULKS MESSAGES");
+    if (argc != 6 && argc != 7) fail("usage: bench each|WAY ROWS ENTRIES BULKS MESSAGES [falling|crowded]");
     sizes s = {strtoul(argv[2], NULL, 10), strtoul(argv[3], NULL, 10), strtoul(argv[4], NULL, 10),
-               strtoul(argv[5], NULL, 10)};
+               strtoul(argv[5], NULL, 10), USUAL};
     if (s.rows == 0 || s.bulks == 0 || s.entries + s.bulks + s.messages > ROOM) fail("no such size");
-    if (strcmp(argv[1], "both") == 0) {
-        run_both(&s);
+    if (argc == 7) s.kind = strcmp(argv[6], "falling") == 0 ? FALLING : CROWDED;
+    if (strcmp(argv[1], "each") == 0) {
+        run_each(&s);
         return 0;
     }
-    input in = make_input(&s);
-    if (strcmp(argv[1], "plain") == 0) run(plain_judge, &s, &in);
-    else if (strcmp(argv[1], "archive") == 0) run(tynderaxo_judge, &s, &in);
-    else if (strcmp(argv[1], "neither") != 0) fail("plain, archive or neither?");
-    return 0;
+    for (int way = 0; way < WAYS; way++) {
+        if (strcmp(argv[1], ways[way].name) != 0) continue;
+        input in = prepared(&s);
+        run(way, &s, &in);
+        return 0;
+    }
+    fail("plain, archive, hashed, indexed, build or none?");
 }

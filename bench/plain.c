@@ -4,14 +4,16 @@
  */
 #include "plain.h"
 
-#include <stdbool.h>
+#include <stdlib.h>
 #include <string.h>
+
+#include "search.h"
+#include "wording.h"
 
 __extension__ typedef unsigned __int128 wide;
 
 enum {
-    HEADER = 65, MESSAGE = 81, ROW = 20, ENTRY = 44, BULK_LINE = 64, POSITION = 8,
-    IDENTIFIER = 35, SENDER = 8, BIC = 11,
+    HEADER = 65, MESSAGE = 81, ROW = 20, BULK_LINE = 64, POSITION = 8,
     MOST_ROWS = 8192, MOST_ENTRIES = 60000, MOST_BULKS = 999, MOST_MESSAGES = 15000,
     PAYMENTS = 1, RETURNS = 3, PARTICIPANT = 5, TAG_MESSAGE = 1, TAG_BULK = 2, NO_ROW = -1
 };
@@ -21,10 +23,6 @@ static const uint64_t MOST_POSITION = 1000000000000000000u;
 /* Where the fields stand in their records. */
 enum { H_IDENTIFIER = 1, H_SENDER = 36, H_NUMBER = 44, H_SUM = 52, H_DATE = 60, H_MARKS = 64 };
 enum { M_RECEIVER = 35, M_AMOUNT = 46, M_ORIGINAL = 54, M_REASON = 62, M_NAME = 66 };
-
-static uint32_t get32(const uint8_t *p) {
-    return (uint32_t)p[0] << 24 | (uint32_t)p[1] << 16 | (uint32_t)p[2] << 8 | p[3];
-}
 
 static uint64_t get64(const uint8_t *p) { return (uint64_t)get32(p) << 32 | get32(p + 4); }
 
@@ -40,14 +38,6 @@ static uint8_t *put_text(uint8_t *p, const uint8_t *text, size_t width) {
 
 /* ---- refusals ---- */
 
-static bool is_date(uint32_t date) {
-    static const uint8_t days[] = {31, 28, 31, 30, 31, 30, 31, 31, 30, 31, 30, 31};
-    uint32_t year = date / 10000, month = date / 100 % 100, day = date % 100;
-    if (year < 2000 || year > 2299 || month < 1 || month > 12) return false;
-    bool leap = year % 4 == 0 && (year % 100 != 0 || year % 400 == 0);
-    return day >= 1 && day <= days[month - 1] + (uint32_t)(month == 2 && leap);
-}
-
 static bool table_stands(const uint8_t *table, size_t len) {
     if (len < 4) return false;
     uint64_t rows = get32(table);
@@ -61,6 +51,20 @@ static bool table_stands(const uint8_t *table, size_t len) {
 
 static bool register_stands(const uint8_t *reg, size_t len) {
     return len >= 4 && (len - 4) % ENTRY == 0 && (len - 4) / ENTRY <= MOST_ENTRIES && get32(reg) <= (len - 4) / ENTRY;
+}
+
+static bool index_fits(size_t reg_len, size_t index_len) { return index_len == 2 * SLOT * ((reg_len - 4) / ENTRY); }
+
+/* Builds the slots anew and compares; 12, 13 or 0. */
+static uint32_t index_refused(const finder *lent, size_t reg_len, size_t index_len) {
+    if (!index_fits(reg_len, index_len)) return 12;
+    finder anew = *lent;
+    anew.index = malloc(index_len + 1);
+    if (anew.index == NULL) abort();
+    build(&anew);
+    bool differs = index_len > 0 && memcmp(anew.index, lent->index, index_len) != 0;
+    free(anew.index);
+    return differs ? 13 : 0;
 }
 
 /* Counts bulks and messages of a whole sheet; false where it ends early or goes on. */
@@ -140,70 +144,10 @@ tynderaxo_route plain_lookup(uint32_t date, const uint8_t *table, size_t table_l
 
 /* ---- faults ---- */
 
-static bool letter(uint8_t c) { return c >= 'A' && c <= 'Z'; }
-static bool digit(uint8_t c) { return c >= '0' && c <= '9'; }
-static bool in_set(uint8_t c) {
-    return letter(c) || digit(c) || (c >= 'a' && c <= 'z') || (c != 0 && strchr("/-?:().,'+ ", c) != NULL);
-}
-
-static bool badly_formed(const uint8_t *identifier) {
-    int length = IDENTIFIER;
-    while (length > 0 && identifier[length - 1] == ' ') length--;
-    if (length == 0 || identifier[0] == ' ' || identifier[0] == '/' || identifier[length - 1] == '/') return true;
-    for (int i = 0; i < length; i++) {
-        if (!in_set(identifier[i])) return true;
-        if (i > 0 && identifier[i] == '/' && identifier[i - 1] == '/') return true;
-    }
-    return false;
-}
-
-static bool bad_bic(const uint8_t *bic) {
-    for (int i = 0; i < BIC; i++) {
-        bool country = i == 4 || i == 5;
-        if (!letter(bic[i]) && (country || !digit(bic[i]))) return true;
-    }
-    return false;
-}
-
-static bool known_reason(const uint8_t *reason) {
-    static const char reasons[] = "AC01AC04AC06AG01AG02AM05BE04CNORFOCRMD07MS02MS03RC01RR01RR02RR03RR04";
-    for (int i = 0; i < 17; i++)
-        if (memcmp(reason, reasons + 4 * i, 4) == 0) return true;
-    return false;
-}
-
-/* Whether a return for this reason may be less by a charge. */
-static bool answers_cancellation(const uint8_t *reason) {
-    return memcmp(reason, "FOCR", 4) == 0;
-}
-
-static bool known_name(const uint8_t *name) {
-    return memcmp(name, "pacs.008.001.08", 15) == 0 || memcmp(name, "pacs.008.001.02", 15) == 0;
-}
-
-static bool blank(const uint8_t *text, size_t len) {
-    for (size_t i = 0; i < len; i++)
-        if (text[i] != ' ') return false;
-    return true;
-}
-
 static void make_entry(uint8_t entry[ENTRY], const uint8_t *sender, const uint8_t *identifier, uint8_t tag) {
     memcpy(entry, sender, SENDER);
     memcpy(entry + SENDER, identifier, IDENTIFIER);
     entry[ENTRY - 1] = tag;
-}
-
-static bool stands(const uint8_t *reg, const uint8_t entry[ENTRY]) {
-    uint32_t used = get32(reg);
-    for (uint32_t i = 0; i < used; i++)
-        if (memcmp(reg + 4 + ENTRY * (size_t)i, entry, ENTRY) == 0) return true;
-    return false;
-}
-
-static void record(uint8_t *reg, const uint8_t entry[ENTRY]) {
-    uint32_t used = get32(reg);
-    memcpy(reg + 4 + ENTRY * (size_t)used, entry, ENTRY);
-    put(reg, used + 1, 4);
 }
 
 /* One bulk with all that its messages are judged by. */
@@ -212,10 +156,11 @@ typedef struct {
     const uint8_t *table, *header, *messages;
     uint32_t count;
     long sender_row;
-    uint8_t *reg, *positions;
+    uint8_t *positions;
+    finder *entries;
 } bulk;
 
-static uint16_t bulk_faults(const bulk *b, const uint8_t entry[ENTRY]) {
+static uint16_t bulk_faults(const bulk *b, bool stands) {
     const uint8_t *header = b->header;
     wide sum = 0;
     for (uint32_t i = 0; i < b->count; i++) sum += get64(b->messages + MESSAGE * (size_t)i + M_AMOUNT);
@@ -223,18 +168,18 @@ static uint16_t bulk_faults(const bulk *b, const uint8_t entry[ENTRY]) {
                     | (b->sender_row == NO_ROW || kind_of(b->table, b->sender_row) != PARTICIPANT) << 1
                     | (get32(header + H_DATE) != b->date) << 2
                     | badly_formed(header + H_IDENTIFIER) << 3
-                    | stands(b->reg, entry) << 4
+                    | stands << 4
                     | (b->count == 0) << 5
                     | (get64(header + H_NUMBER) != b->count) << 6
                     | (get64(header + H_SUM) != sum) << 7);
 }
 
-static uint16_t message_faults(const bulk *b, const uint8_t *message, const uint8_t entry[ENTRY], long row) {
+static uint16_t message_faults(const bulk *b, const uint8_t *message, bool stands, long row) {
     uint64_t amount = get64(message + M_AMOUNT), original = get64(message + M_ORIGINAL);
     const uint8_t *reason = message + M_REASON, *name = message + M_NAME;
     bool payment = b->header[0] == PAYMENTS, returned = b->header[0] == RETURNS;
     return (uint16_t)(badly_formed(message) << 0
-                    | stands(b->reg, entry) << 1
+                    | stands << 1
                     | bad_bic(message + M_RECEIVER) << 2
                     | (row == NO_ROW || kind_of(b->table, row) == 0) << 3
                     | (amount < 1 || amount > MOST_CENTS) << 4
@@ -251,13 +196,21 @@ static void move_cents(uint8_t *positions, long row, uint64_t cents) {
     put(position, get64(position) + cents, POSITION);
 }
 
+/* Its messages' entries came in since the bulk's own was searched, so where slots are kept it is searched again. */
+static void record_own(finder *entries, const uint8_t own[ENTRY]) {
+    size_t place = 0;
+    if (entries->way != BY_READING) find(entries, own, &place);
+    record(entries, own, place);
+}
+
 /* Judges one bulk; writes its line, then its message lines after their count. Returns where the next section goes. */
 static uint8_t *judge_bulk(bulk *b, uint8_t *line, uint8_t *section) {
     const uint8_t *sender = b->header + H_SENDER;
     uint8_t own[ENTRY], entry[ENTRY];
+    size_t place = 0;
     make_entry(own, sender, b->header + H_IDENTIFIER, TAG_BULK);
     b->sender_row = head_office_row(b->table, b->date, sender);
-    uint16_t faults = bulk_faults(b, own);
+    uint16_t faults = bulk_faults(b, find(b->entries, own, &place));
     uint32_t accepted = 0;
     wide accepted_cents = 0, rejected_cents = 0;
     section = put(section, b->count, 4);
@@ -266,10 +219,10 @@ static uint8_t *judge_bulk(bulk *b, uint8_t *line, uint8_t *section) {
         uint64_t amount = get64(message + M_AMOUNT);
         long row = receiver_row(b->table, b->date, message + M_RECEIVER);
         make_entry(entry, sender, message, TAG_MESSAGE);
-        uint16_t own_faults = message_faults(b, message, entry, row);
+        uint16_t own_faults = message_faults(b, message, find(b->entries, entry, &place), row);
         int outcome = faults != 0 ? 2 : own_faults != 0 ? 1 : 0;
         if (outcome == 0) {
-            record(b->reg, entry);
+            record(b->entries, entry, place);
             move_cents(b->positions, b->sender_row, 0 - amount);
             move_cents(b->positions, row, amount);
             accepted += 1;
@@ -281,7 +234,7 @@ static uint8_t *judge_bulk(bulk *b, uint8_t *line, uint8_t *section) {
         section = put(section, (wide)outcome, 1);
         section = put(section, own_faults, 2);
     }
-    if (accepted > 0) record(b->reg, own);
+    if (accepted > 0) record_own(b->entries, own);
     line = put_text(line, b->header + H_IDENTIFIER, IDENTIFIER);
     line = put(line, accepted == 0 ? 2 : accepted < b->count, 1);
     line = put(line, faults, 2);
@@ -292,31 +245,62 @@ static uint8_t *judge_bulk(bulk *b, uint8_t *line, uint8_t *section) {
     return section;
 }
 
-tynderaxo_answer plain_judge(uint32_t date, const uint8_t *sheet, size_t sheet_len, const uint8_t *table,
-                             size_t table_len, uint8_t *reg, size_t reg_len, uint8_t *positions,
-                             size_t positions_len, uint8_t *report, size_t report_len) {
+static tynderaxo_indexed_answer judge(finder *entries, size_t index_len, JUDGED) {
     uint64_t bulks = 0, messages = 0;
     uint32_t number = 0;
     if (!is_date(date)) number = 1;
     else if (!table_stands(table, table_len)) number = 2;
     else if (positions_len != POSITION * (uint64_t)get32(table)) number = 3;
     else if (!register_stands(reg, reg_len)) number = 4;
+    else if (entries->way == BY_INDEX && (number = index_refused(entries, reg_len, index_len)) != 0) ;
     else if (!measure(sheet, sheet_len, &bulks, &messages)) number = 5;
     else if (bulks > MOST_BULKS || messages > MOST_MESSAGES) number = 6;
     else if ((number = kinds_refused(sheet + 4, bulks)) != 0) ;
     else if ((reg_len - 4) / ENTRY - get32(reg) < bulks + messages) number = 9;
     else if (!positions_stand(positions, positions_len, messages)) number = 10;
     else if (report_len < 4 + 68 * bulks + 38 * messages) number = 11;
-    if (number != 0) return (tynderaxo_answer){number, 0};
+    if (number != 0) return (tynderaxo_indexed_answer){number, 0, 0};
 
     const uint8_t *from = sheet + 4 + HEADER * bulks;
     uint8_t *line = put(report, bulks, 4);
     uint8_t *section = line + BULK_LINE * bulks;
     for (uint64_t i = 0; i < bulks; i++) {
-        bulk b = {date, table, sheet + 4 + HEADER * i, from + 4, get32(from), NO_ROW, reg, positions};
+        bulk b = {date, table, sheet + 4 + HEADER * i, from + 4, get32(from), NO_ROW, positions, entries};
         section = judge_bulk(&b, line, section);
         line += BULK_LINE;
         from += 4 + MESSAGE * (size_t)b.count;
     }
-    return (tynderaxo_answer){0, (uint64_t)(section - report)};
+    return (tynderaxo_indexed_answer){0, (uint64_t)(section - report), entries->read};
+}
+
+#define LENT date, sheet, sheet_len, table, table_len, reg, reg_len, positions, positions_len, report, report_len
+
+tynderaxo_answer plain_judge(JUDGED) {
+    finder entries = {BY_READING, reg, NULL, NULL, 0, 0};
+    tynderaxo_indexed_answer answer = judge(&entries, 0, LENT);
+    return (tynderaxo_answer){answer.number, answer.length};
+}
+
+tynderaxo_indexed_answer plain_judge_indexed(JUDGED, uint8_t *index, size_t index_len) {
+    finder entries = {BY_INDEX, reg, index, NULL, index_len / SLOT, 0};
+    return judge(&entries, index_len, LENT);
+}
+
+tynderaxo_answer plain_judge_hashed(JUDGED, uint32_t *names, size_t slots) {
+    finder entries = {BY_HASH, reg, NULL, names, slots, 0};
+    tynderaxo_indexed_answer answer = judge(&entries, 0, LENT);
+    return (tynderaxo_answer){answer.number, answer.length};
+}
+
+uint32_t plain_build_index(const uint8_t *reg, size_t reg_len, uint8_t *index, size_t index_len) {
+    if (!register_stands(reg, reg_len)) return 4;
+    if (!index_fits(reg_len, index_len)) return 12;
+    finder entries = {BY_INDEX, (uint8_t *)(uintptr_t)reg, index, NULL, index_len / SLOT, 0};
+    build(&entries);
+    return 0;
+}
+
+void plain_build_hash(uint8_t *reg, uint32_t *names, size_t slots) {
+    finder entries = {BY_HASH, reg, NULL, names, slots, 0};
+    build(&entries);
 }

@@ -2,13 +2,15 @@
  * Puts the archive behind a pipe, so that a tester built for another processor can call it.
  *
  * Standard input brings calls and standard output takes answers; numbers are little-endian.
- *   call:    7 words of 4 bytes: which function (1 judge, 2 lookup, 3 read), date, five lengths; then the five buffers:
- *            sheet (for a lookup the BIC, for reading the text), table, register, positions, report; for a lookup the
- *            last three are empty, for reading the report is the space for a sheet and the three before it are empty
- *   answer:  6 words of 4 bytes: number, then for the judge the length in two halves (low first) and two 0, for the
- *            lookup found, row, reachable and a 0, for reading length and place in two halves each; last, 1 if no byte
- *            outside the lent buffers and none of the first two buffers changed; then register, positions and report
- *            as they now are
+ *   call:    8 words of 4 bytes: the functions, one a byte, the first in the lowest; the date; six lengths; then the six
+ *            buffers: sheet, table, register, positions, report, index. Functions: 1 judge; 2 lookup, with the BIC in
+ *            place of the sheet; 3 read, with the text in place of the sheet and its space in place of the report;
+ *            4 judge by the index; 5 build an index, its space filled with guard bytes first. What a function does not
+ *            take may be empty. Each of several gets the buffers as they came
+ *   answer:  for each function 6 words of 4 bytes: number, then for the judges the length in two halves (low first) and
+ *            the slots read in two more or two 0, for the lookup found, row, reachable and a 0, for reading length and
+ *            place in two halves each; last, 1 if no byte outside the lent buffers and none of the first two buffers
+ *            changed; then register, positions, report and index as they now are
  * Reading is there only where this was built with WITH_READER.
  */
 #include <stdio.h>
@@ -17,7 +19,8 @@
 
 #include "../include/tynderaxo.h"
 
-enum { JUDGE = 1, LOOKUP = 2, READ = 3, BUFFERS = 5, READ_ONLY = 2, WORDS = 5, GUARD = 61, GUARD_BYTE = 0xA5 };
+enum { JUDGE = 1, LOOKUP = 2, READ = 3, INDEXED = 4, BUILD = 5 };
+enum { BUFFERS = 6, READ_ONLY = 2, WORDS = 5, GUARD = 61, GUARD_BYTE = 0xA5 };
 
 /* All buffers of a call, each between guards; the odd guard width leaves them unaligned. */
 typedef struct {
@@ -86,14 +89,26 @@ static void call(const arena *a, uint32_t function, uint32_t date, uint32_t answ
                                                   buffer(a, 4), a->lengths[4]);
         answer[0] = judged.number;
         put_halves(answer + 1, judged.length);
+    } else if (function == INDEXED) {
+        tynderaxo_indexed_answer judged = tynderaxo_judge_indexed(
+            date, buffer(a, 0), a->lengths[0], buffer(a, 1), a->lengths[1], buffer(a, 2), a->lengths[2], buffer(a, 3),
+            a->lengths[3], buffer(a, 4), a->lengths[4], buffer(a, 5), a->lengths[5]);
+        answer[0] = judged.number;
+        put_halves(answer + 1, judged.length);
+        put_halves(answer + 3, judged.slots);
+    } else if (function == BUILD) {
+        memset(a->bytes + a->at[5], GUARD_BYTE, a->lengths[5]);
+        answer[0] = tynderaxo_build_index(buffer(a, 2), a->lengths[2], buffer(a, 5), a->lengths[5]);
     } else if (function == READ) {
         read_text(a, answer);
-    } else {
+    } else if (function == LOOKUP) {
         tynderaxo_route route = tynderaxo_lookup(date, buffer(a, 1), a->lengths[1], buffer(a, 0), a->lengths[0]);
         answer[0] = route.number;
         answer[1] = route.found;
         answer[2] = route.row;
         answer[3] = route.reachable;
+    } else {
+        fail("no such function");
     }
 }
 
@@ -102,17 +117,19 @@ int main(void) {
     setvbuf(stdin, in, _IOFBF, sizeof in);
     setvbuf(stdout, out, _IOFBF, sizeof out);
     arena a = {0};
-    uint32_t words[7], answer[WORDS + 1];
+    uint32_t words[2 + BUFFERS], answer[WORDS + 1];
     while (fread(words, sizeof words, 1, stdin) == 1) {
-        if (words[0] != JUDGE && words[0] != LOOKUP && words[0] != READ) fail("no such function");
         lay_out(&a, words + 2);
         for (int i = 0; i < BUFFERS; i++)
             if (fread(a.bytes + a.at[i], 1, a.lengths[i], stdin) != a.lengths[i]) fail("a call ends early");
         memcpy(a.before, a.bytes, a.length);
-        call(&a, words[0], words[1], answer);
-        answer[WORDS] = intact(&a);
-        fwrite(answer, sizeof answer, 1, stdout);
-        for (int i = READ_ONLY; i < BUFFERS; i++) fwrite(a.bytes + a.at[i], 1, a.lengths[i], stdout);
+        for (uint32_t functions = words[0]; functions != 0; functions >>= 8) {
+            memcpy(a.bytes, a.before, a.length);
+            call(&a, functions & 255, words[1], answer);
+            answer[WORDS] = intact(&a);
+            fwrite(answer, sizeof answer, 1, stdout);
+            for (int i = READ_ONLY; i < BUFFERS; i++) fwrite(a.bytes + a.at[i], 1, a.lengths[i], stdout);
+        }
         if (fflush(stdout) != 0) fail("the answer cannot be written");
     }
     return 0;

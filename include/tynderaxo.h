@@ -3,7 +3,7 @@
  *
  * What a caller owes, for all functions:
  *   - each pointer is valid for the length beside it: for reading where it is const, else for reading and writing;
- *   - no buffer that is written (reg, positions, report, the sheet of the reader) overlaps another; what is const may lie over what is const;
+ *   - no buffer that is written (reg, positions, report, index, the sheet of the reader) overlaps another; what is const may lie over what is const;
  *   - a buffer of length 0 may be a null pointer.
  * Nothing else is asked: the buffers may hold any bytes and have any lengths, and what does not fit is answered.
  *
@@ -72,6 +72,42 @@ tynderaxo_answer tynderaxo_judge(uint32_t date,
                                  uint8_t *reg, size_t reg_len,
                                  uint8_t *positions, size_t positions_len,
                                  uint8_t *report, size_t report_len);
+
+/*
+ * number: as above, or one of these two, which are tried after 4 and before 5:
+ *   12  the index is not 8 bytes for each place of the register
+ *   13  the index is not the one that tynderaxo_build_index writes for the register
+ * length: as above.
+ * slots:  the slots that the searches read; 0 with any refusal, and then no byte of index has changed either.
+ */
+typedef struct {
+    uint32_t number;
+    uint64_t length;
+    uint64_t slots;
+} tynderaxo_indexed_answer;
+
+/*
+ * Judges the sheet as tynderaxo_judge does, and finds the register's entries by an index of it. Unless it answers 12 or 13, number, length,
+ * register, positions and report are those of tynderaxo_judge. The index is kept as entries are added, so it serves for the next file too.
+ *
+ * An index has two slots of 4 bytes for each of the c places of the register, 8c bytes in all. A slot is 0 where it is empty, else the
+ * place in the register, counted from 1, of the entry that it names. A search starts at the slot that the entry's 44 bytes give, read as a number to
+ * base 257, the first byte the highest digit, modulo 2c. It goes forward, round the end, to the slot that names the entry or to the first empty
+ * one, and reads at most one slot more than entries are used. There is one search for each bulk and each message, and one more for each bulk that is
+ * recorded. Whether the index is right is looked at in every call, which costs a search for each entry used, and is not counted in slots.
+ */
+tynderaxo_indexed_answer tynderaxo_judge_indexed(uint32_t date,
+                                                 const uint8_t *sheet, size_t sheet_len,
+                                                 const uint8_t *table, size_t table_len,
+                                                 uint8_t *reg, size_t reg_len,
+                                                 uint8_t *positions, size_t positions_len,
+                                                 uint8_t *report, size_t report_len,
+                                                 uint8_t *index, size_t index_len);
+
+/*
+ * Writes the index of a register. The answer is 0, or 4 or 12 as above, and then no byte of index has changed.
+ */
+uint32_t tynderaxo_build_index(const uint8_t *reg, size_t reg_len, uint8_t *index, size_t index_len);
 
 /*
  * number:    0 if the table was searched; 1 or 2 as above; 18 if the BIC is not 11 bytes long.

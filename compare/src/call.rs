@@ -2,7 +2,7 @@
 
 use crate::records::{number, read_section, BulkLine, Header, Message, MessageLine, Record, COUNT, POSITION};
 
-/// What one call lends. The first three parts are only read.
+/// What one call lends. The first three parts are only read; the plain judge is not lent the index.
 #[derive(Clone, Debug, PartialEq, Eq)]
 pub struct Call {
     pub date: u32,
@@ -11,6 +11,7 @@ pub struct Call {
     pub register: Vec<u8>,
     pub positions: Vec<u8>,
     pub report: Vec<u8>,
+    pub index: Vec<u8>,
 }
 
 /// Number 0 and the report's length, or a refusal's number and 0.
@@ -18,6 +19,14 @@ pub struct Call {
 pub struct Answer {
     pub number: u32,
     pub length: u64,
+}
+
+/// The same, and how many slots the searches read; 0 of them with a refusal.
+#[derive(Clone, Copy, Debug, PartialEq, Eq)]
+pub struct IndexedAnswer {
+    pub number: u32,
+    pub length: u64,
+    pub slots: u64,
 }
 
 /// What the lookup answers; `found` and `reachable` are 0 or 1, as C has them.
@@ -32,11 +41,41 @@ pub struct Route {
 /// Why no answer came, or why one cannot stand.
 pub type Trouble = String;
 
+/// What the space for a new index holds: no slot of a right one has these bytes.
+const UNTOUCHED: u8 = 0xA5;
+
+/// What each of the three answers to one call, and the call as it is left.
+pub struct Outcomes {
+    pub plain: (Answer, Call),
+    pub indexed: (IndexedAnswer, Call),
+    pub built: (u32, Call),
+}
+
+impl Outcomes {
+    /// The call three times, as it is lent to each; where an index is to be built, the space is filled first.
+    pub fn lent(call: &Call) -> [Call; 3] {
+        let index = vec![UNTOUCHED; call.index.len()];
+        [call.clone(), call.clone(), Call { index, ..call.clone() }]
+    }
+}
+
 /// Whoever can be asked: the reference, the archive, or a judge made wrong on purpose in a test.
 pub trait Judge {
     /// Judges the call and leaves register, positions and report as the judge left them.
     fn judge(&mut self, call: &mut Call) -> Result<Answer, Trouble>;
+    /// The same by the index, which is left as the judge left it too.
+    fn judge_indexed(&mut self, call: &mut Call) -> Result<IndexedAnswer, Trouble>;
+    /// Fills the index from the register, or answers why not.
+    fn build_index(&mut self, register: &[u8], index: &mut [u8]) -> Result<u32, Trouble>;
     fn lookup(&mut self, date: u32, table: &[u8], bic: &[u8]) -> Result<Route, Trouble>;
+
+    /// The three of them on one call, each as if it were alone.
+    fn all(&mut self, call: &Call) -> Result<Outcomes, Trouble> {
+        let [mut plain, mut indexed, mut built] = Outcomes::lent(call);
+        let (answer, by_index) = (self.judge(&mut plain)?, self.judge_indexed(&mut indexed)?);
+        let number = self.build_index(&built.register, &mut built.index)?;
+        Ok(Outcomes { plain: (answer, plain), indexed: (by_index, indexed), built: (number, built) })
+    }
 }
 
 /// One bulk of a report with its messages.

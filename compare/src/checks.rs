@@ -5,9 +5,10 @@ use std::path::Path;
 use std::process::Stdio;
 
 use crate::archive::command;
-use crate::call::{read_positions, Answer, Call, Judge, Trouble};
+use crate::call::{read_positions, Answer, Call, IndexedAnswer, Judge, Outcomes, Trouble};
 use crate::cut::Run;
 use crate::program::{outcome, printed, Input};
+use crate::records::number;
 use crate::reference::Reference;
 use crate::text;
 
@@ -21,40 +22,87 @@ fn equal<T: PartialEq + std::fmt::Debug>(what: &str, got: T, wanted: T) -> Resul
 
 /// Names the first place where two buffers differ.
 fn equal_bytes(what: &str, got: &[u8], wanted: &[u8]) -> Result<(), Trouble> {
+    if got == wanted {
+        return Ok(());
+    }
     match got.iter().zip(wanted).position(|(left, right)| left != right) {
         None => Ok(()),
         Some(place) => equal(&format!("{what}, byte {place}"), got[place], wanted[place]),
     }
 }
 
-/// The judge's answer and every byte it may write, against the reference.
-pub fn same_judgement(judge: &mut impl Judge, call: &Call) -> Result<Answer, Trouble> {
-    let (mut theirs, mut ours) = (call.clone(), call.clone());
-    let answer = judge.judge(&mut theirs)?;
-    equal("the answer", answer, Reference.judge(&mut ours)?)?;
+/// Every byte that the plain judge may write.
+fn equal_parts(theirs: &Call, ours: &Call) -> Result<(), Trouble> {
     equal_bytes("the register", &theirs.register, &ours.register)?;
     equal_bytes("the positions", &theirs.positions, &ours.positions)?;
-    equal_bytes("the report", &theirs.report, &ours.report)?;
-    Ok(answer)
+    equal_bytes("the report", &theirs.report, &ours.report)
 }
 
-/// Both outcomes as lines of the program, for whoever looks for the fault.
-pub fn both_outcomes(judge: &mut impl Judge, call: &Call) -> String {
+/// Every byte that any of the three may write.
+fn equal_calls(theirs: &Call, ours: &Call) -> Result<(), Trouble> {
+    equal_parts(theirs, ours)?;
+    equal_bytes("the index", &theirs.index, &ours.index)
+}
+
+/// The judge by the index on a call that is not refused for it: what the plain judge answered and left.
+fn as_plain(plain: &(Answer, Call), indexed: &(IndexedAnswer, Call)) -> Result<(), Trouble> {
+    let (IndexedAnswer { number, length, .. }, left) = indexed;
+    equal("the answer beside the plain one", Answer { number: *number, length: *length }, plain.0)?;
+    equal_parts(left, &plain.1)
+}
+
+/// An index that was just built is never refused.
+fn mended(judge: &mut impl Judge, call: &Call, plain: &(Answer, Call)) -> Result<(), Trouble> {
     let (mut theirs, mut ours) = (call.clone(), call.clone());
-    let got = judge.judge(&mut theirs).and_then(|answer| outcome(&theirs, answer));
-    let wanted = Reference.judge(&mut ours).and_then(|answer| outcome(&ours, answer));
-    let [got, wanted] = [got, wanted].map(|lines| lines.unwrap_or_else(|why| why + "\n"));
-    format!("it gives\n{}by the reference\n{}", shortened(&got), shortened(&wanted))
+    let answer = judge.judge_indexed(&mut theirs)?;
+    equal("the answer", answer, Reference.judge_indexed(&mut ours)?)?;
+    equal_calls(&theirs, &ours)?;
+    as_plain(plain, &(answer, theirs))
+}
+
+/// The plain judge, the judge by the index and the building of one: what they answer and every byte they may write, against
+/// the reference and beside one another.
+pub fn same_judgement(judge: &mut impl Judge, call: &Call) -> Result<Outcomes, Trouble> {
+    let (theirs, ours) = (judge.all(call)?, Reference.all(call)?);
+    equal("the answer", theirs.plain.0, ours.plain.0)?;
+    equal_calls(&theirs.plain.1, &ours.plain.1)?;
+
+    let by_index = |why| format!("by the index: {why}");
+    equal("the answer", theirs.indexed.0, ours.indexed.0).map_err(by_index)?;
+    equal_calls(&theirs.indexed.1, &ours.indexed.1).map_err(by_index)?;
+
+    let building = |why| format!("building an index: {why}");
+    equal("the answer", theirs.built.0, ours.built.0).map_err(building)?;
+    equal_calls(&theirs.built.1, &ours.built.1).map_err(building)?;
+
+    if ![12, 13].contains(&theirs.indexed.0.number) {
+        as_plain(&theirs.plain, &theirs.indexed).map_err(by_index)?;
+    } else if theirs.built.0 == 0 {
+        let call = Call { index: theirs.built.1.index.clone(), ..call.clone() };
+        mended(judge, &call, &theirs.plain).map_err(|why| format!("by an index just built: {why}"))?;
+    }
+    Ok(theirs)
+}
+
+/// Both outcomes as lines of the program, for whoever looks for the fault, and what they come to by the index.
+pub fn both_outcomes(judge: &mut impl Judge, call: &Call) -> String {
+    let [got, wanted] = [outcomes(judge, call), outcomes(&mut Reference, call)];
+    format!("it gives\n{got}by the reference\n{wanted}")
+}
+
+fn outcomes(judge: &mut impl Judge, call: &Call) -> String {
+    let (mut plain, mut indexed) = (call.clone(), call.clone());
+    let lines = judge.judge(&mut plain).and_then(|answer| outcome(&plain, answer));
+    let by_index = judge.judge_indexed(&mut indexed);
+    let lines = shortened(&lines.unwrap_or_else(|why| why + "\n"));
+    format!("{lines}by the index {by_index:?}, {}\n", shown_index(&indexed.index))
 }
 
 /// The files of a run one after another, each against the reference.
 pub fn same_run(judge: &mut impl Judge, run: &Run) -> Result<(), Trouble> {
-    let (mut register, mut positions) = (run.empty_register(), run.positions.clone());
+    let mut kept = run.start();
     for file in &run.files {
-        let mut call = run.call(file, register, positions);
-        same_judgement(judge, &call)?;
-        Reference.judge(&mut call)?;
-        (register, positions) = (call.register, call.positions);
+        kept = same_judgement(judge, &run.call(file, kept))?.indexed.1.into();
     }
     Ok(())
 }
@@ -99,14 +147,23 @@ pub fn shown(call: &Call) -> String {
     text += &format!("# positions of {} bytes", call.positions.len());
     let moved = positions.iter().enumerate().filter(|(_, position)| **position != 0);
     text += &moved.map(|(row, position)| format!(", row {row} at {position}")).collect::<String>();
-    text + &format!("\n# report space of {} bytes\n", call.report.len())
+    text + &format!("\n# report space of {} bytes\n# {}\n", call.report.len(), shown_index(&call.index))
+}
+
+/// The slots that are taken, no more of them than a person would read.
+fn shown_index(index: &[u8]) -> String {
+    const MOST_SLOTS: usize = 200;
+    let slots = index.chunks(4).map(number).enumerate();
+    let taken = slots.filter(|(_, name)| *name != 0).take(MOST_SLOTS);
+    let taken: String = taken.map(|(slot, name)| format!(", slot {slot} names {name}")).collect();
+    format!("index of {} bytes{taken}", index.len())
 }
 
 /// A run as the case texts of its files.
 pub fn shown_run(run: &Run) -> String {
     let mut text = String::new();
     for (index, file) in run.files.iter().enumerate() {
-        let call = run.call(file, run.empty_register(), run.positions.clone());
+        let call = run.call(file, run.start());
         text += &format!("# file {index}\n{}", shown(&call));
     }
     text

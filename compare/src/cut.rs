@@ -1,10 +1,13 @@
 //! What holds over more than one call (demand 3): a sheet cut in two judges as the whole does, and over a run of
 //! files nothing is accepted twice and the positions move by exactly what was accepted.
 
-use std::collections::HashSet;
+use std::collections::{HashMap, HashSet};
 
-use crate::call::{enough_report, read_positions, read_report, Call, Judge, Judged, Trouble};
-use crate::records::{number, read_bulks, write_bulks, Bulk, Entry, Header, Message, Record, COUNT};
+use crate::call::{
+    enough_report, read_positions, read_report, Answer, Call, IndexedAnswer, Judge, Judged, Route, Trouble,
+};
+use crate::records::{number, read_bulks, write_bulks, Bic, Bulk, Entry, Header, Message, Record, COUNT};
+use crate::reference::right_index;
 
 const ACCEPTED: u8 = 0;
 const REJECTED_BULK: u8 = 2;
@@ -26,9 +29,22 @@ pub struct File {
     pub sheet: Vec<u8>,
 }
 
+/// What goes on from one file to the next.
+pub struct Kept {
+    register: Vec<u8>,
+    positions: Vec<u8>,
+    index: Vec<u8>,
+}
+
+impl From<Call> for Kept {
+    fn from(Call { register, positions, index, .. }: Call) -> Kept {
+        Kept { register, positions, index }
+    }
+}
+
 impl Run {
-    /// The call of one file, with register and positions as the files before it left them.
-    pub fn call(&self, file: &File, register: Vec<u8>, positions: Vec<u8>) -> Call {
+    /// The call of one file, with register, positions and index as the files before it left them.
+    pub fn call(&self, file: &File, Kept { register, positions, index }: Kept) -> Call {
         let report = vec![0; enough_report(file.sheet.len())];
         Call {
             date: file.date,
@@ -37,11 +53,45 @@ impl Run {
             register,
             positions,
             report,
+            index,
         }
     }
 
-    pub fn empty_register(&self) -> Vec<u8> {
-        vec![0; COUNT + self.room * Entry::WIDTH]
+    /// A register and an index without entries.
+    pub fn start(&self) -> Kept {
+        let register = vec![0; COUNT + self.room * Entry::WIDTH];
+        let index = right_index(&register);
+        Kept { register, positions: self.positions.clone(), index }
+    }
+}
+
+/// A judge that is asked by the index: what holds over several calls has to hold so too. And what it leaves has to be the
+/// index of the register it leaves.
+pub struct ByIndex<'a, J: Judge>(pub &'a mut J);
+
+impl<J: Judge> Judge for ByIndex<'_, J> {
+    fn judge(&mut self, call: &mut Call) -> Result<Answer, Trouble> {
+        let was_right = call.index == right_index(&call.register);
+        let IndexedAnswer { number, length, .. } = self.0.judge_indexed(call)?;
+        if was_right && [12, 13].contains(&number) {
+            return Err("the index of the register is refused".to_string());
+        }
+        if was_right && call.index != right_index(&call.register) {
+            return Err("the index left is not that of the register left".to_string());
+        }
+        Ok(Answer { number, length })
+    }
+
+    fn judge_indexed(&mut self, call: &mut Call) -> Result<IndexedAnswer, Trouble> {
+        self.0.judge_indexed(call)
+    }
+
+    fn build_index(&mut self, register: &[u8], index: &mut [u8]) -> Result<u32, Trouble> {
+        self.0.build_index(register, index)
+    }
+
+    fn lookup(&mut self, date: u32, table: &[u8], bic: &[u8]) -> Result<Route, Trouble> {
+        self.0.lookup(date, table, bic)
     }
 }
 
@@ -88,6 +138,7 @@ fn cut(
         ("lines", together == lines),
         ("register", part.register == whole.register),
         ("positions", part.positions == whole.positions),
+        ("index", part.index == whole.index),
     ];
     match equal.iter().find(|(_, equal)| !equal) {
         Some((name, _)) => Err(format!("the {name} of the parts are not those of the whole")),
@@ -99,15 +150,17 @@ fn cut(
 struct Accepted {
     entries: HashSet<Entry>,
     positions: Vec<i128>,
+    /// Rows looked up before, by date and BIC: a run has one table.
+    rows: HashMap<(u32, Bic), usize>,
 }
 
 /// Judges the files in order, refused ones among them, and checks what they come to.
 pub fn run(judge: &mut impl Judge, run: &Run) -> Result<(), Trouble> {
     let start = read_positions(&run.positions).into_iter().map(i128::from).collect();
-    let mut accepted = Accepted { entries: HashSet::new(), positions: start };
-    let (mut register, mut positions) = (run.empty_register(), run.positions.clone());
+    let mut accepted = Accepted { entries: HashSet::new(), positions: start, rows: HashMap::new() };
+    let mut kept = run.start();
     for (index, file) in run.files.iter().enumerate() {
-        let before = run.call(file, register, positions);
+        let before = run.call(file, kept);
         let mut call = before.clone();
         match judged(judge, &mut call)? {
             None if call != before => {
@@ -118,9 +171,9 @@ pub fn run(judge: &mut impl Judge, run: &Run) -> Result<(), Trouble> {
                 accepted.file(judge, &call, &lines).map_err(|why| format!("file {index}: {why}"))?
             }
         }
-        (register, positions) = (call.register, call.positions);
+        kept = call.into();
     }
-    accepted.comes_to(&register, &positions)
+    accepted.comes_to(&kept.register, &kept.positions)
 }
 
 impl Accepted {
@@ -157,15 +210,24 @@ impl Accepted {
         message: &Message,
     ) -> Result<(), Trouble> {
         self.entry(header, message.identifier, MESSAGE)?;
-        let mut row = |bic: &[u8]| -> Result<usize, Trouble> {
-            let route = judge.lookup(call.date, &call.table, bic)?;
-            let found = (route.number, route.found) == (0, 1);
-            found.then_some(route.row as usize).ok_or_else(|| "an accepted message has no row".to_string())
-        };
-        let (from, to) = (row(&[&header.sender[..], b"XXX"].concat())?, row(&message.receiver)?);
+        let mut sender: Bic = *b"........XXX";
+        sender[..8].copy_from_slice(&header.sender);
+        let (from, to) = (self.row(judge, call, sender)?, self.row(judge, call, message.receiver)?);
         self.positions[from] -= i128::from(message.amount);
         self.positions[to] += i128::from(message.amount);
         Ok(())
+    }
+
+    fn row(&mut self, judge: &mut impl Judge, call: &Call, bic: Bic) -> Result<usize, Trouble> {
+        if let Some(row) = self.rows.get(&(call.date, bic)) {
+            return Ok(*row);
+        }
+        let route = judge.lookup(call.date, &call.table, &bic)?;
+        if (route.number, route.found) != (0, 1) {
+            return Err("an accepted message has no row".to_string());
+        }
+        self.rows.insert((call.date, bic), route.row as usize);
+        Ok(route.row as usize)
     }
 
     /// The register holds what was accepted and nothing else; the positions are the start and what moved.

@@ -64,6 +64,7 @@ impl Input {
             register: self.register.clone(),
             positions: vec![0; POSITION * rows],
             report: vec![0; enough_report(self.sheet.len())],
+            index: Vec::new(),
         }
     }
 }

@@ -7,6 +7,7 @@ use crate::cut::Run;
 use crate::records::{
     padded, read_bulks, read_section, write_bulks, write_section, Bulk, Entry, Record, Row, POSITION,
 };
+use crate::reference::right_index;
 
 /// One way to make a case smaller or plainer. Ranges are given by their first index and their length.
 #[derive(Clone, Copy, Debug)]
@@ -25,6 +26,8 @@ enum Edit {
     RegisterBytes(usize, usize),
     ZeroPositions,
     PlainReport,
+    /// Bytes of the index as they are in that of the register.
+    MendIndex(usize, usize),
 }
 
 /// Ranges to try to leave out: all, then halves, quarters and so on down to single ones.
@@ -83,6 +86,17 @@ fn register_edits(register: &[u8]) -> Vec<Edit> {
     };
     let removed = ranges(entries.len()).into_iter().map(|(from, count)| Edit::Entries(from, count));
     removed.chain([Edit::TightRoom, Edit::ClearFree]).collect()
+}
+
+/// An index of another length is mended whole.
+fn index_edits(call: &Call) -> Vec<Edit> {
+    let right = right_index(&call.register);
+    if call.index == right {
+        return Vec::new();
+    }
+    let mended = if call.index.len() == right.len() { ranges(right.len() / 4) } else { Vec::new() };
+    let whole = [Edit::MendIndex(0, usize::MAX)].into_iter();
+    whole.chain(mended.into_iter().map(|(from, count)| Edit::MendIndex(4 * from, 4 * count))).collect()
 }
 
 /// The bulks of a sheet after an edit. What a header says too much or too little, it goes on saying.
@@ -168,10 +182,13 @@ fn call_edits(call: &Call) -> Vec<Edit> {
     edits.extend(table_edits(&call.table));
     edits.extend(register_edits(&call.register));
     edits.extend([Edit::ZeroPositions, Edit::PlainReport]);
+    edits.extend(index_edits(call));
     edits
 }
 
 fn edited_call(call: &Call, edit: Edit) -> Call {
+    // an index that is the register's goes on being that
+    let follows = call.index == right_index(&call.register);
     let mut call = call.clone();
     edit_sheet(&mut call.sheet, edit, call.date);
     edit_table(&mut call.table, &mut call.positions, edit);
@@ -181,6 +198,12 @@ fn edited_call(call: &Call, edit: Edit) -> Call {
     match edit {
         Edit::ZeroPositions => call.positions.fill(0),
         Edit::PlainReport => call.report = vec![0; enough_report(call.sheet.len())],
+        Edit::MendIndex(_, usize::MAX) => call.index = right_index(&call.register),
+        Edit::MendIndex(from, count) => {
+            let right = right_index(&call.register);
+            call.index[from..from + count].copy_from_slice(&right[from..from + count]);
+        }
+        _ if follows => call.index = right_index(&call.register),
         _ => (),
     }
     call

@@ -2,12 +2,12 @@
 
 mod support;
 
-use compare::call::{Answer, Call, Judge, Route, Trouble};
+use compare::call::{Answer, Call, IndexedAnswer, Judge, Route, Trouble};
 use compare::checks::{same_judgement, same_run};
 use compare::cut;
 use compare::generate;
 use compare::random::Random;
-use compare::reference::{lookup, Reference};
+use compare::reference::{lookup, right_index, Reference};
 use compare::shrink;
 use std::time::Duration;
 use support::*;
@@ -20,6 +20,17 @@ impl<F: FnMut(&Call, &mut Call, Answer) -> Answer> Judge for Bent<F> {
         let before = call.clone();
         let answer = judge(call);
         Ok((self.0)(&before, call, answer))
+    }
+
+    fn judge_indexed(&mut self, call: &mut Call) -> Result<IndexedAnswer, Trouble> {
+        let before = call.clone();
+        let IndexedAnswer { number, length, slots } = Reference.judge_indexed(call)?;
+        let Answer { number, length } = (self.0)(&before, call, Answer { number, length });
+        Ok(IndexedAnswer { number, length, slots })
+    }
+
+    fn build_index(&mut self, register: &[u8], index: &mut [u8]) -> Result<u32, Trouble> {
+        Reference.build_index(register, index)
     }
 
     fn lookup(&mut self, date: u32, table: &[u8], bic: &[u8]) -> Result<Route, Trouble> {
@@ -47,9 +58,12 @@ fn two_files() -> cut::Run {
 fn the_reference_passes_generated_cuts_and_runs() {
     for case in 0..2_000 {
         let random = &mut Random::of(9, case);
-        assert_eq!(cut::cuts(&mut Reference, &generate::call(random)), Ok(()));
+        let call = generate::call(random);
+        assert_eq!(cut::cuts(&mut Reference, &call), Ok(()));
+        assert_eq!(cut::cuts(&mut cut::ByIndex(&mut Reference), &call), Ok(()));
         let run = generate::run(random);
         assert_eq!(cut::run(&mut Reference, &run), Ok(()));
+        assert_eq!(cut::run(&mut cut::ByIndex(&mut Reference), &run), Ok(()));
         assert_eq!(same_run(&mut Reference, &run), Ok(()));
     }
 }
@@ -114,6 +128,45 @@ fn a_refusal_that_writes_fails_the_run() {
 }
 
 #[test]
+fn a_judge_that_leaves_the_index_behind_fails_cuts_and_runs_by_it() {
+    let mut forgets = Bent(|before: &Call, call: &mut Call, answer| {
+        call.index = before.index.clone();
+        answer
+    });
+    let failure = "the index left is not that of the register left".to_string();
+    assert_eq!(cut::cuts(&mut cut::ByIndex(&mut forgets), &three_bulks()), Err(failure.clone()));
+    assert_eq!(cut::run(&mut cut::ByIndex(&mut forgets), &two_files()), Err(failure));
+    assert!(same_judgement(&mut forgets, &three_bulks()).is_err());
+}
+
+#[test]
+fn a_judge_that_refuses_the_right_index_fails_the_run() {
+    let mut refuses = Bent(|before: &Call, call: &mut Call, answer| {
+        if before.index.iter().all(|byte| *byte == 0) {
+            return answer;
+        }
+        *call = before.clone();
+        Answer { number: 13, length: 0 }
+    });
+    let failure = cut::run(&mut cut::ByIndex(&mut refuses), &two_files());
+    assert_eq!(failure, Err("the index of the register is refused".to_string()));
+}
+
+#[test]
+fn a_refusal_that_writes_the_index_fails_the_run() {
+    let mut writes = Bent(|before: &Call, call: &mut Call, answer: Answer| {
+        if answer.number != 0 && before.date == 0 {
+            call.index.fill(1);
+        }
+        answer
+    });
+    let mut run = two_files();
+    run.files[1].date = 0;
+    assert!(cut::run(&mut cut::ByIndex(&mut writes), &run).is_err());
+    assert!(same_run(&mut writes, &run).is_err());
+}
+
+#[test]
 fn a_failing_call_shrinks_to_what_makes_it_fail() {
     // wrong whenever a message of seven cents is accepted
     let mut wrong = Bent(|_: &Call, call: &mut Call, answer| {
@@ -127,6 +180,7 @@ fn a_failing_call_shrinks_to_what_makes_it_fail() {
     let bulks = [bulk("D1", "T1"), (header("D2", "AAAALV22", 3, 7), messages.to_vec())];
     let mut start = call(&bulks[1..]);
     start.register = register(&[entry("AAAALV22", "X", 1)], 9);
+    start.index = right_index(&start.register);
     assert!(same_judgement(&mut wrong, &start).is_err());
     let small =
         shrink::call(start, Duration::from_secs(20), |call| same_judgement(&mut wrong, call).is_err());
@@ -136,6 +190,7 @@ fn a_failing_call_shrinks_to_what_makes_it_fail() {
     );
     assert_eq!(small.table.len(), 4 + 2 * 20);
     assert_eq!(small.register, register(&[], 2));
+    assert_eq!(small.index, vec![0; 16]);
 }
 
 #[test]

@@ -12,6 +12,7 @@ use compare::checks::{both_outcomes, same_judgement, same_lines, same_route, sam
 use compare::program::Input;
 use compare::random::Random;
 use compare::{cut, generate, shrink, text};
+use cut::ByIndex;
 use generate::limits::{self, LIMITS};
 use generate::sweeps::{self, SWEEPS};
 
@@ -62,13 +63,17 @@ struct Failure {
 /// What has been tried, for the last line.
 #[derive(Default)]
 struct Tried {
-    /// Calls by the number answered.
-    answers: [u64; 12],
+    /// Calls by the number answered, by the plain judge and by the index.
+    answers: [u64; 14],
+    indexed: [u64; 14],
     cuts: u64,
     runs: u64,
     routes: u64,
     programs: u64,
 }
+
+/// What has to hold over a sheet cut in two.
+type CutCheck = fn(&mut Archive, &Call) -> Result<(), Trouble>;
 
 struct Comparison {
     archive: Archive,
@@ -91,12 +96,13 @@ impl Comparison {
     }
 
     fn judgement(&mut self, call: &Call) -> Result<(), Failure> {
-        let answer = same_judgement(&mut self.archive, call).map_err(|_| {
+        let outcomes = same_judgement(&mut self.archive, call).map_err(|_| {
             let (small, why) = self.smallest(call, |archive, call| same_judgement(archive, call).map(drop));
             let outcomes = both_outcomes(&mut self.archive, &small);
             Failure { why: format!("{why}\n{outcomes}"), case: shown(&small) }
         })?;
-        self.tried.answers[answer.number as usize] += 1;
+        self.tried.answers[outcomes.plain.0.number as usize] += 1;
+        self.tried.indexed[outcomes.indexed.0.number as usize] += 1;
         Ok(())
     }
 
@@ -107,19 +113,26 @@ impl Comparison {
         self.judgement(&generate::damaged(random, call))
     }
 
-    fn cuts(&mut self, call: &Call) -> Result<(), Failure> {
+    fn cuts(&mut self, call: &Call, check: CutCheck) -> Result<(), Failure> {
         self.tried.cuts += 1;
-        cut::cuts(&mut self.archive, call).map_err(|_| {
-            let (small, why) = self.smallest(call, |archive, call| cut::cuts(archive, call));
+        check(&mut self.archive, call).map_err(|_| {
+            let (small, why) = self.smallest(call, check);
             Failure { why, case: shown(&small) }
         })
     }
 
-    fn run(&mut self, random: &mut Random) -> Result<(), Failure> {
+    /// The files of a run agree with the reference in any case; what they come to is asked of one of the two judges.
+    fn run(&mut self, random: &mut Random, by_index: bool) -> Result<(), Failure> {
         self.tried.runs += 1;
         let run = generate::run(random);
         let archive = &mut self.archive;
-        let mut check = |run: &cut::Run| cut::run(archive, run).and_then(|()| same_run(archive, run));
+        let mut check = |run: &cut::Run| {
+            match by_index {
+                true => cut::run(&mut ByIndex(archive), run),
+                false => cut::run(archive, run),
+            }?;
+            same_run(archive, run)
+        };
         check(&run).map_err(|_| {
             let small = shrink::run(run, self.shrink, |run| check(run).is_err());
             let why = check(&small).expect_err("the smallest run fails");
@@ -161,11 +174,13 @@ impl Comparison {
         let random = &mut Random::of(seed, index);
         let call = generate::call(random);
         self.judgement(&call)?;
-        match index % 8 {
-            0 | 4 => self.cuts(&call),
-            1 => self.routes(&call, random),
-            2 => self.run(random),
-            3 if index % 40 == 3 => self.lines(&call, random),
+        match index % 16 {
+            0 | 4 | 8 | 12 => self.cuts(&call, cut::cuts),
+            5 => self.cuts(&call, |archive, call| cut::cuts(&mut ByIndex(archive), call)),
+            1 | 9 => self.routes(&call, random),
+            2 => self.run(random, false),
+            10 => self.run(random, true),
+            3 | 11 if index % 40 == 3 => self.lines(&call, random),
             _ => Ok(()),
         }
     }
@@ -219,10 +234,11 @@ fn main() -> ExitCode {
         println!("FAILED at {place}, seed {}\n{why}\nthe smallest case found:\n{case}", options.seed);
         return ExitCode::FAILURE;
     }
-    let Tried { answers, cuts, runs, routes, programs } = comparison.tried;
+    let Tried { answers, indexed, cuts, runs, routes, programs } = comparison.tried;
     let seconds = start.elapsed().as_secs_f64();
     let calls: u64 = answers.iter().sum();
     println!("{calls} calls, by number answered {answers:?}");
+    println!("by the index, by number answered {indexed:?}");
     println!("{cuts} cut at every place, {runs} runs, {routes} lookups, {programs} inputs of the program");
     println!("no difference found in {seconds:.1} s");
     ExitCode::SUCCESS

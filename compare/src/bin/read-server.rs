@@ -5,8 +5,8 @@ use std::io::{self, Read, Write};
 use compare::reader::read;
 
 const READ: u32 = 3;
-/// Function and date, then the lengths of the five buffers.
-const WORDS: usize = 7;
+/// Function and date, then the lengths of the six buffers.
+const WORDS: usize = 8;
 
 /// The words of one call; none where the input ends.
 fn words(from: &mut impl Read) -> io::Result<Option<[u32; WORDS]>> {
@@ -21,7 +21,7 @@ fn words(from: &mut impl Read) -> io::Result<Option<[u32; WORDS]>> {
 
 fn main() -> io::Result<()> {
     let (mut from, mut to) = (io::stdin().lock(), io::stdout().lock());
-    while let Some([function, _, text, .., space]) = words(&mut from)? {
+    while let Some([function, _, text, .., space, _]) = words(&mut from)? {
         if function != READ {
             return Err(io::Error::other("only reading is served here"));
         }

@@ -11,22 +11,29 @@ const MOST_CENTS: i64 = 99_999_999_999;
 impl Maker<'_> {
     /// Damages one part of the call.
     pub fn damage(&mut self, call: &mut Call) {
-        match self.random.below(11) {
+        match self.random.below(14) {
             0 => call.date = Maker::near_date(self.random),
             1 => self.damage_table(&mut call.table),
             2 => self.resize(&mut call.positions, 8),
-            3 => self.damage_register(&mut call.register),
+            3 => {
+                self.damage_register(&mut call.register);
+                self.follow(call);
+            }
             4 => self.damage_sheet(&mut call.sheet),
             5 => self.damage_kinds(&mut call.sheet, &[1, 3, 1, 3, 0, 2, 4, 129, 255]),
             6 => self.damage_kinds(&mut call.sheet, &[1, 3]),
-            7 => self.fill_register(call),
+            7 => {
+                self.fill_register(call);
+                self.follow(call);
+            }
             8 | 9 => self.stretch_positions(call),
-            _ => self.resize_report(call),
+            10 => self.resize_report(call),
+            _ => self.damage_index(call),
         }
     }
 
     /// Some bytes more or fewer, often exactly one or one record.
-    fn resize(&mut self, part: &mut Vec<u8>, record: usize) {
+    pub fn resize(&mut self, part: &mut Vec<u8>, record: usize) {
         let some = 1 + self.random.below(record);
         let steps = self.random.pick(&[1, record, some]);
         if self.random.one_in(2) {

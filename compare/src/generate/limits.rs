@@ -1,10 +1,12 @@
 //! Cases at the limits of size, each on both sides of its limit, and cases of full size.
 
+use super::index::ending_at;
 use super::parts::WIDEST;
 use crate::call::{report_length, write_positions, Call};
 use crate::records::{
     padded, write_bulks, write_section, Bulk, Entry, Header, Identifier, Message, Record, Row,
 };
+use crate::reference::right_index;
 
 const DATE: u32 = 20260615;
 const SENDER: &[u8; 8] = b"AAAALV22";
@@ -63,6 +65,7 @@ pub fn call(rows: &[Row], register: Vec<u8>, bulks: &[Bulk]) -> Call {
         date: DATE,
         sheet: write_bulks(bulks),
         table,
+        index: right_index(&register),
         register,
         positions: write_positions(&vec![0; rows.len()]),
         report: vec![0x55; report_length(bulks.len(), messages)],
@@ -104,6 +107,25 @@ fn long(amount: u64) -> Call {
     call(&rows(2), register(0, 15_999), &falling(bulks(999, 15_000, amount)))
 }
 
+/// A call in which everything starts at the last slot, so that each search goes over all entries, round the end.
+fn crowded(used: usize, messages: usize) -> Call {
+    let room = used + messages + 1;
+    let crowd = |letter: char, tag: u8| {
+        // the end that is chosen replaces two digits
+        let entry =
+            move |index: usize| Entry { sender: *SENDER, identifier: identifier(letter, 100 * index), tag };
+        (0..).filter_map(move |index| ending_at(2 * room - 1, 2 * room, &entry(index)))
+    };
+    let mut bulks = bulks(1, messages, 100);
+    bulks[0].header.identifier = crowd('B', 2).next().expect("some end fits");
+    bulks[0].messages.iter_mut().zip(crowd('M', 1)).for_each(|(message, to)| message.identifier = to);
+    let entries = crowd('E', 1).map(|identifier| Entry { sender: *SENDER, identifier, tag: 1 });
+    let mut register = Vec::new();
+    write_section(&entries.take(used).collect::<Vec<_>>(), &mut register);
+    register.resize(4 + room * Entry::WIDTH, 0);
+    call(&rows(2), register, &bulks)
+}
+
 /// 10^18 less what 15,000 messages can move.
 const EDGE: i64 = 1_000_000_000_000_000_000 - 15_000 * MOST_CENTS as i64;
 
@@ -111,7 +133,7 @@ const EDGE: i64 = 1_000_000_000_000_000_000 - 15_000 * MOST_CENTS as i64;
 pub type Limit = (&'static str, fn() -> Call);
 
 /// Every limit of size in the rules, just kept and just passed. Each case alone is judged quickly.
-pub const LIMITS: [Limit; 31] = [
+pub const LIMITS: [Limit; 33] = [
     ("999 empty bulks", || call(&rows(2), register(0, 999), &bulks(999, 0, 0))),
     ("1,000 empty bulks", || call(&rows(2), register(0, 1_000), &bulks(1_000, 0, 0))),
     ("999 bulks of one message", || call(&rows(2), register(0, 1_998), &bulks(999, 999, 5))),
@@ -154,6 +176,8 @@ pub const LIMITS: [Limit; 31] = [
     ("a negative position past the edge", || stretched(-EDGE - 1)),
     ("a long report one byte short", || spaced(-1)),
     ("a long report with a byte to spare", || spaced(1)),
+    ("one entry and one message at the last slot", || crowded(1, 1)),
+    ("1,500 entries and 300 messages at the last slot", || crowded(1_500, 300)),
     ("a register one entry short of 15,001", || {
         call(&rows(2), register(0, 15_000), &falling(bulks(1, 15_000, 1)))
     }),

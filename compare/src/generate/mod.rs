@@ -2,6 +2,7 @@
 
 mod damage;
 mod fields;
+mod index;
 pub mod limits;
 mod parts;
 pub mod sweeps;
@@ -11,6 +12,7 @@ use crate::cut::{File, Run};
 use crate::program::Input;
 use crate::random::Random;
 use crate::records::{write_bulks, write_section};
+use crate::reference::right_index;
 
 /// Makes the parts of one case.
 pub struct Maker<'a> {
@@ -45,18 +47,23 @@ impl Maker<'_> {
         let large = self.random.one_in(60);
         let (most_bulks, most_messages) = if large { (20, 12) } else { (4, 5) };
         let count = self.random.below(most_bulks + 1);
-        let bulks = self.bulks(count, most_messages);
+        let mut bulks = self.bulks(count, most_messages);
         let needed = bulks.len() + bulks.iter().map(|bulk| bulk.messages.len()).sum::<usize>();
         let used = self.random.pick(&[0, 0, 1, 3, 8, 20]);
         let free = needed + self.random.pick(&[0, 0, 1, 4]);
+        let mut register = self.register(used, free);
+        if self.random.one_in(3) {
+            self.crowd(&mut register, &mut bulks);
+        }
         let table = self.table();
         Call {
             date: self.date,
             sheet: write_bulks(&bulks),
-            register: self.register(used, free),
             positions: write_positions(&self.positions(table.len() / 20)),
             table,
             report: self.space(&bulks),
+            index: right_index(&register),
+            register,
         }
     }
 }

@@ -59,9 +59,13 @@ impl Maker<'_> {
         }
     }
 
-    /// A register with so many entries in use and so many free; free ones may hold anything.
+    /// A register with so many entries in use and so many free; free ones may hold anything, and one may stand twice.
     pub fn register(&mut self, used: usize, free: usize) -> Vec<u8> {
-        let entries: Vec<Entry> = (0..used).map(|_| self.entry()).collect();
+        let mut entries: Vec<Entry> = (0..used).map(|_| self.entry()).collect();
+        if used > 1 && self.random.one_in(3) {
+            let (first, second) = (self.random.below(used), self.random.below(used));
+            entries[second] = entries[first].clone();
+        }
         let mut register = Vec::new();
         write_section(&entries, &mut register);
         match self.random.below(3) {

@@ -15,11 +15,14 @@ use crate::records::{
 pub const MESSAGE: u8 = 1;
 pub const BULK: u8 = 2;
 
-const ACCEPTED: u8 = 0;
+pub const ACCEPTED: u8 = 0;
 const PARTIAL: u8 = 1;
 const BULK_REJECTED: u8 = 2;
 const MESSAGE_REJECTED: u8 = 1;
 const FELL: u8 = 2;
+
+/// The lines of a file: each bulk's, with those of its messages.
+pub type Lines = Vec<(BulkLine, Vec<MessageLine>)>;
 
 /// The entries in use, and those this call adds in their order.
 pub struct Register {
@@ -114,7 +117,7 @@ fn bulk_line(bulk: &Bulk, faults: u16, lines: &[MessageLine]) -> BulkLine {
     }
 }
 
-fn report(judged: &[(BulkLine, Vec<MessageLine>)]) -> Vec<u8> {
+fn report(judged: &Lines) -> Vec<u8> {
     let mut report = (judged.len() as u32).to_be_bytes().to_vec();
     judged.iter().for_each(|(line, _)| line.write(&mut report));
     judged.iter().for_each(|(_, lines)| write_section(lines, &mut report));
@@ -130,22 +133,32 @@ pub fn judge(
     positions: &mut [u8],
     space: &mut [u8],
 ) -> Answer {
-    let lent = Lent { date, sheet, table, register, positions, report: space };
-    let File { rows, used, bulks, positions: start } = match admitted(&lent) {
-        Ok(file) => file,
-        Err(number) => return Answer { number, length: 0 },
-    };
-    let unused = COUNT + used * Entry::WIDTH;
+    let lent = Lent { date, sheet, table, register, positions, report: space, index: None };
+    match admitted(&lent) {
+        Err(number) => Answer { number, length: 0 },
+        Ok(file) => Answer { number: 0, length: settle(date, &file, register, positions, space).0 },
+    }
+}
+
+/// Judges a file that no refusal meets and writes what comes of it; the report's length, and the lines.
+pub fn settle(
+    date: u32,
+    file: &File,
+    register: &mut [u8],
+    positions: &mut [u8],
+    space: &mut [u8],
+) -> (u64, Lines) {
+    let unused = COUNT + file.used * Entry::WIDTH;
     let mut state = State {
         date,
-        rows: &rows,
+        rows: &file.rows,
         register: Register::read(&register[COUNT..unused]),
-        positions: start.into_iter().map(i128::from).collect(),
+        positions: file.positions.iter().map(|cents| i128::from(*cents)).collect(),
     };
-    let judged: Vec<_> = bulks.iter().map(|bulk| state.bulk(bulk)).collect();
+    let judged: Lines = file.bulks.iter().map(|bulk| state.bulk(bulk)).collect();
 
     let added = &state.register.added;
-    put(register, 0, &((used + added.len()) as u32).to_be_bytes());
+    put(register, 0, &((file.used + added.len()) as u32).to_be_bytes());
     let mut entries = Vec::new();
     added.iter().for_each(|entry| entry.write(&mut entries));
     put(register, unused, &entries);
@@ -154,7 +167,7 @@ pub fn judge(
     put(positions, 0, &write_positions(&end));
     let report = report(&judged);
     put(space, 0, &report);
-    Answer { number: 0, length: report.len() as u64 }
+    (report.len() as u64, judged)
 }
 
 fn put(buffer: &mut [u8], at: usize, bytes: &[u8]) {

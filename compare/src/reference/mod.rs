@@ -1,27 +1,41 @@
 //! The second judge: the rules read as directly as Rust allows, for being right rather than fast.
 //!
-//! It shares no line and no search with the proved judge. Sums are `u128`, positions `i128`, the register a set.
+//! It shares no line and no search with the proved judge. Sums are `u128`, positions `i128`, the register a set. The judge
+//! by the index is the plain one, with the searches gone over once more to count what they read.
 
 mod calendar;
+mod index;
+mod indexed;
 mod judging;
 mod refusals;
 mod routing;
 mod rules;
 
 pub use calendar::is_date;
+pub use index::start;
+pub use indexed::{build_index, judge_indexed, right_index};
 pub use judging::judge;
 pub use routing::lookup;
 pub use rules::{badly_formed, in_set};
 
-use crate::call::{Answer, Call, Judge, Route, Trouble};
+use crate::call::{Answer, Call, IndexedAnswer, Judge, Route, Trouble};
 
 /// The reference as one who may be asked.
 pub struct Reference;
 
 impl Judge for Reference {
     fn judge(&mut self, call: &mut Call) -> Result<Answer, Trouble> {
-        let Call { date, sheet, table, register, positions, report } = call;
+        let Call { date, sheet, table, register, positions, report, .. } = call;
         Ok(judge(*date, sheet, table, register, positions, report))
+    }
+
+    fn judge_indexed(&mut self, call: &mut Call) -> Result<IndexedAnswer, Trouble> {
+        let Call { date, sheet, table, register, positions, report, index } = call;
+        Ok(judge_indexed(*date, sheet, table, register, positions, report, index))
+    }
+
+    fn build_index(&mut self, register: &[u8], index: &mut [u8]) -> Result<u32, Trouble> {
+        Ok(build_index(register, index))
     }
 
     fn lookup(&mut self, date: u32, table: &[u8], bic: &[u8]) -> Result<Route, Trouble> {

@@ -1,6 +1,7 @@
 //! Which calls are refused: the conditions, in the order of the numbers.
 
 use super::calendar::is_date;
+use super::index::Index;
 use super::routing;
 use super::rules::{MOST_CENTS, PAYMENTS, RETURNS};
 use crate::call::{read_positions, report_length};
@@ -19,6 +20,8 @@ pub struct Lent<'a> {
     pub register: &'a [u8],
     pub positions: &'a [u8],
     pub report: &'a [u8],
+    /// What the plain judge is not lent.
+    pub index: Option<&'a [u8]>,
 }
 
 /// A file that no refusal meets, taken apart.
@@ -27,6 +30,8 @@ pub struct File {
     pub used: usize,
     pub bulks: Vec<Bulk>,
     pub positions: Vec<i64>,
+    /// The register's, where one is lent.
+    pub index: Option<Index>,
 }
 
 /// The file, or the first refusal that holds.
@@ -36,6 +41,12 @@ pub fn admitted(lent: &Lent) -> Result<File, u32> {
     let rows = routing::rows(lent.table).ok_or(2u32)?;
     need(lent.positions.len() == POSITION * rows.len(), 3)?;
     let (room, used) = entries(lent.register).ok_or(4u32)?;
+    let mut index = None;
+    if let Some(given) = lent.index {
+        need(given.len() == Index::length(room), 12)?;
+        let right = index.insert(Index::of(lent.register, room, used));
+        need(given == right.bytes(), 13)?;
+    }
     let bulks = whole(lent.sheet).ok_or(5u32)?;
     let messages = bulks.iter().map(|bulk| bulk.messages.len()).sum();
     need(bulks.len() <= MOST_BULKS && messages <= MOST_MESSAGES, 6)?;
@@ -47,11 +58,11 @@ pub fn admitted(lent: &Lent) -> Result<File, u32> {
     let reach = messages as u128 * u128::from(MOST_CENTS);
     need(positions.iter().all(|position| u128::from(position.unsigned_abs()) + reach <= MOST_POSITION), 10)?;
     need(lent.report.len() >= report_length(bulks.len(), messages), 11)?;
-    Ok(File { rows, used, bulks, positions })
+    Ok(File { rows, used, bulks, positions, index })
 }
 
 /// The register's room and its number used; none where its size or that number is wrong.
-fn entries(register: &[u8]) -> Option<(usize, usize)> {
+pub fn entries(register: &[u8]) -> Option<(usize, usize)> {
     let (used, room) = register.split_at_checked(COUNT)?;
     let whole = room.len() % Entry::WIDTH == 0;
     let (room, used) = (room.len() / Entry::WIDTH, number(used) as usize);

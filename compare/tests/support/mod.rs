@@ -87,6 +87,7 @@ pub fn call(bulks: &[(Vec<u8>, Vec<Vec<u8>>)]) -> Call {
         register: register(&[], bulks.len() + messages),
         positions: vec![0; 24],
         report: vec![0xEE; 4 + 68 * bulks.len() + 38 * messages],
+        index: vec![0; 8 * (bulks.len() + messages)],
     }
 }
 
@@ -98,7 +99,7 @@ pub fn one_bulk(messages: &[Vec<u8>]) -> Call {
 }
 
 pub fn judge(call: &mut Call) -> Answer {
-    let Call { date, sheet, table, register, positions, report } = call;
+    let Call { date, sheet, table, register, positions, report, .. } = call;
     reference::judge(*date, sheet, table, register, positions, report)
 }
 

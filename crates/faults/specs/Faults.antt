@@ -24,27 +24,33 @@ receiverRow terms table message = route (terms .date) table (receiverOf message)
 
 -- ---- a bulk: of a header whose section holds so many messages, with amounts of so many cents
 
-abbrev pub bulkFacts : Terms → List ℕ → List ℕ → List ℕ → ℕ → ℕ → List Bool
-bulkFacts terms table register header number sum =
+-- given whether it is a repeat
+abbrev pub bulkFactsGiven : Bool → Terms → List ℕ → List ℕ → ℕ → ℕ → List Bool
+bulkFactsGiven repeats terms table header number sum =
     marksWrong (marksOf header)
     ∷ noParticipant table (senderRow terms table header)
     ∷ dateWrong terms (valueDateOf header)
     ∷ badlyFormed (bulkIdentifierOf header)
-    ∷ repeated register (senderOf header) (bulkIdentifierOf header) bulkTag
+    ∷ repeats
     ∷ empty number
     ∷ numberWrong (statedNumberOf header) number
     ∷ sumWrong (statedSumOf header) sum
     ∷ []
+
+abbrev pub bulkFacts : Terms → List ℕ → List ℕ → List ℕ → ℕ → ℕ → List Bool
+bulkFacts terms table register header number sum =
+    bulkFactsGiven (repeated register (senderOf header) (bulkIdentifierOf header) bulkTag) terms table header number sum
 
 unfoldable pub bulkFaults : Terms → List ℕ → List ℕ → List ℕ → ℕ → ℕ → ℕ
 bulkFaults terms table register header number sum = mask (bulkFacts terms table register header number sum)
 
 -- ---- a message, of a bulk with this header
 
-abbrev pub messageFacts : Terms → List ℕ → List ℕ → List ℕ → List ℕ → List Bool
-messageFacts terms table register header message =
+-- given whether it is a repeat
+abbrev pub messageFactsGiven : Bool → Terms → List ℕ → List ℕ → List ℕ → List Bool
+messageFactsGiven repeats terms table header message =
     badlyFormed (identifierOf message)
-    ∷ repeated register (senderOf header) (identifierOf message) messageTag
+    ∷ repeats
     ∷ receiverBadlyFormed (receiverOf message)
     ∷ unreachable table (receiverRow terms table message)
     ∷ amountWrong (amountOf message)
@@ -53,6 +59,10 @@ messageFacts terms table register header message =
     ∷ nameUnknown (kindOf header) (nameOf message)
     ∷ returnedAmountWrong (kindOf header) (amountOf message) (originalOf message) (reasonOf message)
     ∷ []
+
+abbrev pub messageFacts : Terms → List ℕ → List ℕ → List ℕ → List ℕ → List Bool
+messageFacts terms table register header message =
+    messageFactsGiven (repeated register (senderOf header) (identifierOf message) messageTag) terms table header message
 
 unfoldable pub messageFaults : Terms → List ℕ → List ℕ → List ℕ → List ℕ → ℕ
 messageFaults terms table register header message = mask (messageFacts terms table register header message)

@@ -1,8 +1,9 @@
 // The faults of a bulk and of a message as masks: every fact is asked, and each is set at its own bit, by name.
 ghost use mathlib.Core.Path.{_≡_};
+ghost use Rattle.masks.specs.Mask.{mask};
 ghost use Rattle.sheet.specs.Reading.{headerIn, messageIn};
 ghost use Rattle.tally.specs.Tally.{centsOf};
-ghost use Rattle.faults.specs.Faults.{bulkFaults, messageFaults};
+ghost use Rattle.faults.specs.Faults.{bulkFactsGiven, messageFactsGiven};
 ghost use Rattle.faults.specs.Asked.{BulkAsked, MessageAsked};
 use routing::Found;
 use rules::Terms;
@@ -46,23 +47,22 @@ pub const NAME_UNKNOWN: u16 = 7;
 
 pub const RETURNED_AMOUNT_WRONG: u16 = 8;
 
-// The faults of a bulk, whose section holds so many messages with amounts of so many cents.
+// The faults of a bulk, whose section holds so many messages with amounts of so many cents. Whether its key stands in the register was
+// asked before.
 pub fn bulk_faults(
     terms: Terms,
     sheet: &[u8],
     table: &[u8],
-    register: &[u8],
     header: Header,
     row: Found,
+    repeats: bool,
     number: u64,
     sum: Cents,
 ) -> u16
     requires { ⌜ BulkAsked terms (now sheet) (now table) header row ⌝ }
-    ensures { λ r. ⌜ r ≡ bulkFaults terms (now (table .entry)) (now (register .entry)) (headerIn (now (sheet .entry)) header) number (centsOf sum) ⌝ }
+    ensures { λ r. ⌜ r ≡ mask (bulkFactsGiven repeats terms (now (table .entry)) (headerIn (now (sheet .entry)) header) number (centsOf sum)) ⌝ }
 {
-    let sender = header.sender(sheet);
     let identifier = header.identifier(sheet);
-    let repeated = rules::repeated(register, sender, identifier, register::BULK);
     let marks_wrong = rules::marks_wrong(header.marks);
     let no_participant = rules::no_participant(table, row);
     let date_wrong = rules::date_wrong(terms, header.date);
@@ -74,7 +74,7 @@ pub fn bulk_faults(
     let m = masks::flag(m, NO_PARTICIPANT, no_participant);
     let m = masks::flag(m, DATE_WRONG, date_wrong);
     let m = masks::flag(m, BULK_BADLY_FORMED, badly_formed);
-    let m = masks::flag(m, BULK_REPEATED, repeated);
+    let m = masks::flag(m, BULK_REPEATED, repeats);
     let m = masks::flag(m, EMPTY, empty);
     let m = masks::flag(m, NUMBER_WRONG, number_wrong);
     masks::flag(m, SUM_WRONG, sum_wrong)
@@ -85,22 +85,20 @@ pub fn message_faults(
     terms: Terms,
     sheet: &[u8],
     table: &[u8],
-    register: &[u8],
     header: Header,
     message: Message,
     row: Found,
+    repeats: bool,
 ) -> u16
     requires { ⌜ MessageAsked terms (now sheet) (now table) header message row ⌝ }
-    ensures { λ r. ⌜ r ≡ messageFaults terms (now (table .entry)) (now (register .entry)) (headerIn (now (sheet .entry)) header) (messageIn (now (sheet .entry)) message) ⌝ }
+    ensures { λ r. ⌜ r ≡ mask (messageFactsGiven repeats terms (now (table .entry)) (headerIn (now (sheet .entry)) header) (messageIn (now (sheet .entry)) message)) ⌝ }
 {
     let kind = header.kind;
-    let sender = header.sender(sheet);
     let identifier = message.identifier(sheet);
     let receiver = message.receiver(sheet);
     let reason = message.reason(sheet);
     let name = message.name(sheet);
     let badly_formed = wording::badly_formed(identifier);
-    let repeated = rules::repeated(register, sender, identifier, register::MESSAGE);
     let receiver_badly_formed = rules::receiver_badly_formed(receiver);
     let unreachable = rules::unreachable(table, row);
     let amount_wrong = rules::amount_wrong(message.amount);
@@ -114,7 +112,7 @@ pub fn message_faults(
         reason,
     );
     let m = masks::flag(0, BADLY_FORMED, badly_formed);
-    let m = masks::flag(m, REPEATED, repeated);
+    let m = masks::flag(m, REPEATED, repeats);
     let m = masks::flag(m, RECEIVER_BADLY_FORMED, receiver_badly_formed);
     let m = masks::flag(m, UNREACHABLE, unreachable);
     let m = masks::flag(m, AMOUNT_WRONG, amount_wrong);

@@ -1,8 +1,9 @@
 -- The loop over a file's bulks: what is left, judged from the state so far, comes to what all come to. Assumes nothing.
 use mathlib.Core.Path.{_≡_, refl, sym, ap, subst, _∙_}
+use mathlib.Core.Bool.{Bool}
 use mathlib.Core.List.{List, _∷_, _++_}
-use Prim.Native.Nat.{ℕ, _+_, _-_, _*_, _≤_, _<_}
-use native.Mathlib.Nat.{sub-zero, le-of-eq}
+use Prim.Native.Nat.{ℕ, _+_, _-_, _*_, _^_, _≤_, _<_}
+use native.Mathlib.Nat.{sub-zero, zero-add, add-zero, le-of-eq}
 use native.Mathlib.Omega.{arith}
 use lib.ListN.{length, length-append}
 use lib.Seq.{sets}
@@ -12,25 +13,33 @@ use Rattle.sheet.specs.Sheet.{headerWidth, widthAt, countAt, afterMessages, Bul
 use Rattle.sheet.specs.Reading.{HeaderRead, Inside, BulkTaken}
 use Rattle.sheet.specs.declared.BulkRead.{BulkRead}
 use Rattle.sheet.proofs.Bulks.{BulkWide, bulk-wide, bulks-wide}
-use Rattle.sheet.proofs.Laws.{whole-facts, records-length, bulks-length, header-bound, end-step, end-bound, messages-step, bulks-step, bulks-end}
+use Rattle.sheet.proofs.Laws.{whole-facts, records-length, bulks-length, bulks-messages, header-bound, end-step, end-bound, messages-step, bulks-step, bulks-end}
+use Rattle.register.specs.Room.{Spare}
+use Rattle.register.proofs.Laws.{spare-less}
+use Rattle.index.specs.Searches.{slotsReadBy}
+use Rattle.index.specs.Ready.{indexBy, Ready}
+use Rattle.index.proofs.Ways.{index-then, index-own}
 use Rattle.positions.specs.Positions.{positionWidth}
 use Rattle.rules.specs.declared.Terms.{Terms}
 use Rattle.report.specs.Line.{countWidth, firstLine, sectionsPlace, afterLines, messageLineWidth, bulkLineWidth}
 use Rattle.report.specs.declared.Places.{Places}
 use Rattle.refusing.specs.Refusals.{mostMessages}
+use Rattle.refusing.specs.Checking.{Few}
 use Rattle.refusing.specs.declared.Contents.{Contents}
 use Rattle.messages.specs.Messages.{State}
 use Rattle.messages.specs.Ready.{stateOf, SectionReady}
 use Rattle.judging.specs.Judgement.{bulkLineOf, sectionOf, afterBulk, judgeBulks}
+use Rattle.judging.specs.Searches.{bulkSearches, searches}
 use Rattle.judging.specs.Ready.{bulkIn, HeaderReady, BulkSpace, BulkTold, BulksReady, BulksTold}
 use Rattle.judging.proofs.Walks.{after-bulk, bulk-lines, bulk-sections}
+use Rattle.judging.proofs.Entries.{bulk-spare, slots-split, slots-few}
 use Rattle.judging.proofs.Widths.{section-wide, bulk-line-wide, bulk-lines-wide}
 
 pub sections-within : (sheet table positions report : List ℕ) (contents : Contents) → BulksReady sheet table positions report contents → sectionsPlace (contents .bulks) ≤ length report
 sections-within sheet table positions report contents ready = (let space = ready .space in omega arith)
 
-module _ (terms : Terms) (table sheet : List ℕ) (bulks : ℕ) (before : State) (report₀ : List ℕ) where
-  pub record BulksLeft (register positions report : List ℕ) (head at line to k : ℕ) : Type 0 where
+module _ (terms : Terms) (table sheet : List ℕ) (indexed : Bool) (bulks : ℕ) (before : State) (index₀ report₀ : List ℕ) where
+  pub record BulksLeft (register index positions report : List ℕ) (slots head at line to k : ℕ) : Type 0 where
     pub low : k ≤ bulks
     pub headed : countWidth + headerWidth * bulks ≤ length sheet
     pub headHere : head ≡ countWidth + headerWidth * k
@@ -40,6 +49,7 @@ module _ (terms : Terms) (table sheet : List ℕ) (bulks : ℕ) (before : State)
     pub few : messagesFrom sheet (bulks - k) head at ≤ mostMessages
     pub space : to + countWidth * (bulks - k) + messageLineWidth * messagesFrom sheet (bulks - k) head at ≤ length report₀
     pub registerWide : length register ≡ length (before .register)
+    pub indexWide : length index ≡ length index₀
     pub positionsWide : length positions ≡ length (before .positions)
     pub reportWide : length report ≡ length report₀
     pub after : judgeBulks terms table (bulksFrom sheet (bulks - k) head at) (stateOf register positions) .after ≡ judgeBulks terms table (bulksOf sheet) before .after
@@ -48,11 +58,23 @@ module _ (terms : Terms) (table sheet : List ℕ) (bulks : ℕ) (before : State)
         to
         (judgeBulks terms table (bulksFrom sheet (bulks - k) head at) (stateOf register positions) .sections)
         ≡ sets (sets report₀ firstLine (judgeBulks terms table (bulksOf sheet) before .lines)) (sectionsPlace bulks) (judgeBulks terms table (bulksOf sheet) before .sections)
+    pub spare : Spare register (bulks - k + messagesFrom sheet (bulks - k) head at)
+    pub kept : index ≡ indexBy indexed index₀ register
+    pub counted : slots + slotsReadBy indexed (searches terms table (bulksFrom sheet (bulks - k) head at) (stateOf register positions)) ≡ slotsReadBy indexed (searches terms table (bulksOf sheet) before)
+    pub bounded : slotsReadBy indexed (searches terms table (bulksOf sheet) before) < 2 ^ 64
 
-  pub bulks-start : (contents : Contents) → contents .bulks ≡ bulks → BulksReady sheet table (before .positions) report₀ contents
+  -- all searches of a file that is not too large
+  all-bounded : (contents : Contents) → Few sheet contents → slotsReadBy indexed (searches terms table (bulksOf sheet) before) < 2 ^ 64
+  all-bounded contents few =
+      let most = slots-few terms table indexed (bulksOf sheet) before in
+      let b = bulks-length sheet (bulkCount sheet) countWidth (firstSection sheet) in
+      let m = bulks-messages sheet (bulkCount sheet) countWidth (firstSection sheet) in
+      omega (arith, most, b, m, few .measured .bulkCount, few .measured .messageCount, few .bulks, few .messages)
+
+  pub bulks-start : (contents : Contents) → contents .bulks ≡ bulks → BulksReady sheet table (before .positions) report₀ contents → Ready indexed (before .register) index₀ (contents .bulks + contents .messages)
       → (head at : ℕ) → head ≡ countWidth → at ≡ firstSection sheet → (line to : ℕ) → line ≡ firstLine → to ≡ sectionsPlace bulks
-      → BulksLeft (before .register) (before .positions) report₀ head at line to 0
-  bulks-start contents holds ready head at eh ea line to el et =
+      → BulksLeft (before .register) index₀ (before .positions) report₀ 0 head at line to 0
+  bulks-start contents holds ready place head at eh ea line to el et =
       let m = ready .few .measured in
       let facts = whole-facts sheet (m .whole) in
       let count : bulks ≡ bulkCount sheet = sym holds ∙ m .bulkCount in
@@ -67,13 +89,18 @@ module _ (terms : Terms) (table sheet : List ℕ) (bulks : ℕ) (before : State)
         few = rw (sub-zero bulks, ← held) (ready .few .messages);
         space = (let s = ready .space in rw (sub-zero bulks, ← held) (omega arith));
         registerWide = refl;
+        indexWide = refl;
         positionsWide = refl;
         reportWide = refl;
         after = rw (sub-zero bulks, count, eh, ea);
         written = rw (sub-zero bulks, eh, ea, el, et, count);
+        spare = rw (sub-zero bulks, ← held, ← holds) (place .spare);
+        kept = place .kept;
+        counted = rw (sub-zero bulks, count, eh, ea) (zero-add _);
+        bounded = all-bounded contents (ready .few);
       }
 
-  module _ (register positions report : List ℕ) (head at line to k : ℕ) (left : BulksLeft register positions report head at line to k) where
+  module _ (register index positions report : List ℕ) (slots head at line to k : ℕ) (left : BulksLeft register index positions report slots head at line to k) where
     pub header-within : k < bulks → head + headerWidth ≤ length sheet
     header-within h = rw (left .headHere) (header-bound sheet countWidth bulks k (left .headed) h)
 
@@ -116,16 +143,26 @@ module _ (terms : Terms) (table sheet : List ℕ) (bulks : ℕ) (before : State)
               places = places;
             }
 
+        -- a place for each message and one for the bulk, and the index is that of the register so far
+        pub bulk-places : Ready indexed register index (read .section .number + 1)
+        bulk-places =
+            record {
+              spare = spare-less register (bulks - k + messagesFrom sheet (bulks - k) head at) (read .section .number + 1) (let e = messages-left in let n = taken .number in omega arith) (left .spare);
+              kept = index-own index₀ index register indexed (left .kept);
+            }
+
         bulk-there : bulkIn sheet (read .header) (read .section) ≡ bulkAt sheet head at
         bulk-there = rw (taken .header .kind, taken .header .place, taken .first, taken .number)
 
-        pub told-there : (places : Places) (register' positions' report' : List ℕ) → places .line ≡ line → places .section ≡ to
-            → BulkTold terms table (bulkIn sheet (read .header) (read .section)) (stateOf register positions) report places register' positions' report'
-            → BulkTold terms table (bulkAt sheet head at) (stateOf register positions) report (record { line = line; section = to }) register' positions' report'
-        told-there places register' positions' report' el et told =
+        pub told-there : (places : Places) (register' index' positions' report' : List ℕ) (more : ℕ) → places .line ≡ line → places .section ≡ to
+            → BulkTold terms table indexed (bulkIn sheet (read .header) (read .section)) (stateOf register positions) index report places register' index' positions' report' more
+            → BulkTold terms table indexed (bulkAt sheet head at) (stateOf register positions) index report (record { line = line; section = to }) register' index' positions' report' more
+        told-there places register' index' positions' report' more el et told =
             record {
               register = told .register ∙ ap (λ (b : Bulk). afterBulk terms table b (stateOf register positions) .register) bulk-there;
+              kept = told .kept ∙ ap (λ (b : Bulk). indexBy indexed index (afterBulk terms table b (stateOf register positions) .register)) bulk-there;
               positions = told .positions ∙ ap (λ (b : Bulk). afterBulk terms table b (stateOf register positions) .positions) bulk-there;
+              read = told .read ∙ ap (λ (b : Bulk). slotsReadBy indexed (bulkSearches terms table b (stateOf register positions))) bulk-there;
               written = told .written ∙ (rw (bulk-there, el, et));
             }
 
@@ -137,9 +174,16 @@ module _ (terms : Terms) (table sheet : List ℕ) (bulks : ℕ) (before : State)
         pub line-within : line + bulkLineWidth ≤ length report'
         line-within = (let l = left .lineHere in let t = left .toHere in let s = section-within (countAt sheet at) refl in omega arith)
 
-      module _ (register' positions' report' : List ℕ)
-          (told : BulkTold terms table (bulkAt sheet head at) (stateOf register positions) report (record { line = line; section = to }) register' positions' report')
-          (kr : length register' ≡ length register) (kp : length positions' ≡ length positions) (kw : length report' ≡ length report)
+      -- what the bulks read so far and this one read is a part of the whole
+      pub slots-room : (more : ℕ) → more ≡ slotsReadBy indexed (bulkSearches terms table (bulkAt sheet head at) (stateOf register positions)) → slots + more < 2 ^ 64
+      slots-room more e =
+          let sum = rw (bulks-step sheet bulks k head at h) at (left .counted) in
+          let split = slots-split terms table indexed (bulkAt sheet head at) (bulksFrom sheet (bulks - (k + 1)) (head + headerWidth) (afterMessages sheet head at)) (stateOf register positions) in
+          omega (arith, sum, split, e, left .bounded)
+
+      module _ (register' index' positions' report' : List ℕ) (more : ℕ)
+          (told : BulkTold terms table indexed (bulkAt sheet head at) (stateOf register positions) index report (record { line = line; section = to }) register' index' positions' report' more)
+          (kr : length register' ≡ length register) (ki : length index' ≡ length index) (kp : length positions' ≡ length positions) (kw : length report' ≡ length report)
           (n head' at' line' to' : ℕ) (en : n ≡ countAt sheet at) (eh : head' ≡ head + headerWidth) (ea : at' ≡ afterMessages sheet head at)
           (el : line' ≡ line + bulkLineWidth) (et : to' ≡ afterLines to n) where
         split : bulksFrom sheet (bulks - k) head at ≡ bulkAt sheet head at ∷ bulksFrom sheet (bulks - (k + 1)) (head + headerWidth) (afterMessages sheet head at)
@@ -200,7 +244,22 @@ module _ (terms : Terms) (table sheet : List ℕ) (bulks : ℕ) (before : State)
             (sets-then (sets report to theSection) line bulkLineWidth theLine linesLeft line-long ∙ sym (sets-swap report line (theLine ++ linesLeft) to theSection apart))
             ∙ sets-then (sets report line (theLine ++ linesLeft)) to (countWidth + messageLineWidth * n) theSection sectionsLeft section-long
 
-        pub bulks-turn : BulksLeft register' positions' report' head' at' line' to' (k + 1)
+        messages-here : length (bulkAt sheet head at .messages) ≡ countAt sheet at
+        messages-here = records-length (widthAt sheet head) sheet (countAt sheet at) (at + countWidth)
+
+        spare-next : Spare (afterBulk terms table (bulkAt sheet head at) (stateOf register positions) .register) (bulks - (k + 1) + messagesFrom sheet (bulks - (k + 1)) (head + headerWidth) (afterMessages sheet head at))
+        spare-next =
+            bulk-spare terms table (bulkAt sheet head at) (stateOf register positions) _
+            (spare-less register (bulks - k + messagesFrom sheet (bulks - k) head at) _ (let e = messages-left in let n = messages-here in omega arith) (left .spare))
+
+        counted-next : slots + more + slotsReadBy indexed (searches terms table (bulksFrom sheet (bulks - (k + 1)) (head + headerWidth) (afterMessages sheet head at)) (afterBulk terms table (bulkAt sheet head at) (stateOf register positions)))
+            ≡ slotsReadBy indexed (searches terms table (bulksOf sheet) before)
+        counted-next =
+            let sum = rw split at (left .counted) in
+            let first = slots-split terms table indexed (bulkAt sheet head at) (bulksFrom sheet (bulks - (k + 1)) (head + headerWidth) (afterMessages sheet head at)) (stateOf register positions) in
+            omega (arith, sum, first, told .read)
+
+        pub bulks-turn : BulksLeft register' index' positions' report' (slots + more) head' at' line' to' (k + 1)
         unfolding theLine theSection linesLeft sectionsLeft
         bulks-turn =
             record {
@@ -213,21 +272,28 @@ module _ (terms : Terms) (table sheet : List ℕ) (bulks : ℕ) (before : State)
               few = (let a = left .few in let e = messages-left in rw (eh, ea) (omega arith));
               space = (let s = left .space in let e = lines-left in rw (eh, ea, et, en) (omega arith));
               registerWide = kr ∙ left .registerWide;
+              indexWide = ki ∙ left .indexWide;
               positionsWide = kp ∙ left .positionsWide;
               reportWide = kw ∙ left .reportWide;
               after = rw (eh, ea, state-next) (after-bulk terms table (bulkAt sheet head at) _ (stateOf register positions) ∙ (rw split at (left .after)));
               written =
                   rw (eh, ea, state-next, el, et, told .written)
                   (joined ∙ (rw (split, bulk-lines terms table (bulkAt sheet head at) _ (stateOf register positions), bulk-sections terms table (bulkAt sheet head at) _ (stateOf register positions)) at (left .written)));
+              spare = rw (eh, ea, told .register) spare-next;
+              kept = told .kept ∙ index-then index₀ index register indexed (left .kept) _ ∙ (rw (told .register));
+              counted = rw (eh, ea, state-next) counted-next;
+              bounded = left .bounded;
             }
 
-    pub bulks-ended : bulks ≤ k → BulksTold terms sheet table bulks before report₀ register positions report
-    unfolding judgeBulks
+    pub bulks-ended : bulks ≤ k → BulksTold terms sheet table indexed bulks before index₀ report₀ register index positions report slots
+    unfolding judgeBulks searches slotsReadBy
     bulks-ended h =
         let none = bulks-end sheet bulks k head at h in
         let ended = rw none at (left .after) in
         record {
           register = ap (λ (s : State). s .register) ended;
+          kept = left .kept ∙ ap (λ (s : State). indexBy indexed index₀ (s .register)) ended;
+          read = sym (add-zero slots) ∙ (rw none at (left .counted));
           positions = ap (λ (s : State). s .positions) ended;
           written = rw none at (left .written);
         }

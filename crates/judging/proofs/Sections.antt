@@ -1,8 +1,9 @@
 -- One bulk's line, section and state, from what the calls that made them told. Assumes nothing.
 use mathlib.Core.Path.{_≡_, refl, sym, ap, _∙_}
 use mathlib.Core.Bool.{Bool, true, false, cond, not}
-use mathlib.Core.List.{List, _++_}
-use Prim.Native.Nat.{ℕ, _+_, _-_, _*_, _≤_}
+use mathlib.Core.List.{List, [], _∷_, _++_}
+use Prim.Native.Nat.{ℕ, _+_, _-_, _*_, _^_, _≤_, _<_}
+use native.Mathlib.Nat.{add-zero}
 use native.Mathlib.Omega.{arith}
 use lib.Dec.{eqb}
 use lib.ListN.{length, take, drop, length-take, length-drop}
@@ -14,25 +15,37 @@ use Rattle.wire.proofs.Stores.{sets-then}
 use Rattle.routing.specs.Lookup.{optionOf, headOfficeRow}
 use Rattle.routing.specs.Promise.{RowTold}
 use Rattle.routing.specs.declared.Found.{Found}
-use Rattle.sheet.specs.Sheet.{messageWidth, senderOf, bulkIdentifierOf}
+use Rattle.sheet.specs.Sheet.{messageWidth, senderOf, bulkIdentifierOf, Bulk, countMessages}
 use Rattle.sheet.specs.Reading.{headerIn}
 use Rattle.sheet.specs.declared.Header.{Header}
 use Rattle.sheet.specs.declared.Section.{Section}
 use Rattle.sheet.proofs.Fields.{sender-width, bulk-identifier-width}
 use Rattle.sheet.proofs.Laws.{records-length}
-use Rattle.register.specs.Register.{key, bulkTag, add}
+use Rattle.masks.specs.Mask.{mask}
+use Rattle.slots.specs.Slots.{End}
+use Rattle.register.specs.Register.{keyWidth, bulkTag, add, key as keyOf}
 use Rattle.register.specs.Room.{Parts}
+use Rattle.register.proofs.Laws.{key-length, spare-less}
+use Rattle.index.specs.Index.{endIn}
+use Rattle.index.specs.Searches.{slotsRead, slotsReadBy}
+use Rattle.index.specs.Ready.{indexBy, nowhere, Ready, SoughtTold, EnteredAnew}
+use Rattle.index.specs.declared.Sought.{Sought}
+use Rattle.index.proofs.Ways.{index-then, index-own, read-of}
 use Rattle.rules.specs.declared.Terms.{Terms}
-use Rattle.faults.specs.Faults.{senderRow, bulkFaults}
+use Rattle.faults.specs.Faults.{senderRow, bulkFactsGiven, bulkFaults}
 use Rattle.faults.specs.Asked.{BulkAsked}
 use Rattle.tally.specs.Tally.{Totals, totalsOf}
-use Rattle.tally.specs.declared.Tally.{Tally}
+use Rattle.tally.specs.Room.{mostCounted}
 use Rattle.report.specs.Line.{countWidth, bulkLine, bulkLineWidth, linesAt, messageLineWidth}
 use Rattle.report.specs.declared.Places.{Places}
 use Rattle.messages.specs.Messages.{State, judgeMessages, sumOf}
-use Rattle.messages.specs.Ready.{messagesOf, RulingReady, MessagesTold}
+use Rattle.messages.specs.Ready.{stateOf, messagesOf, RulingReady, MessagesTold}
+use Rattle.messages.specs.declared.Counts.{Counts}
+use Rattle.messages.proofs.Walks.{messages-spare}
 use Rattle.judging.specs.Judgement.{bulkOutcome, faultsOfBulk, falls, messagesJudged, bulkLineOf, sectionOf, afterBulk}
-use Rattle.judging.specs.Ready.{bulkIn, HeaderReady, BulkSpace, BulkTold}
+use Rattle.judging.specs.Searches.{bulkSearch, searchAgain, bulkSearches}
+use Rattle.judging.specs.Ready.{bulkIn, HeaderReady, BulkSpace, BulkTold, RecordTold}
+use Rattle.judging.proofs.Entries.{bulk-slots, slots-split, slots-few, count-one}
 
 -- ---- outcomes
 
@@ -49,12 +62,21 @@ module _ (fallen : Bool) (t : Totals) (stands : fallen ≡ false) where
 
 -- ---- the record of a bulk
 
-module _ (register register' new : List ℕ) (accepted : ℕ) where
-  pub recorded-some : (accepted ≡ 0 → ⊥) → register' ≡ add register new → register' ≡ cond (eqb accepted 0) register (add register new)
-  recorded-some more e = e ∙ (rw (ne-eqb accepted 0 more))
+module _ (indexed : Bool) (register index new : List ℕ) (accepted : ℕ) where
+  pub recorded-some : (accepted ≡ 0 → ⊥) → (register' index' : List ℕ) (slots : ℕ) → EnteredAnew indexed register index new register' index' slots
+      → RecordTold indexed register index new accepted register' index' slots
+  unfolding slotsReadBy
+  recorded-some more register' index' slots told =
+      let some = ne-eqb accepted 0 more in
+      record {
+        recorded = told .entered .recorded ∙ (rw some);
+        kept = told .entered .kept ∙ (rw some);
+        read = told .read ∙ (rw some (sym (add-zero _)));
+      }
 
-  pub recorded-none : accepted ≡ 0 → register ≡ cond (eqb accepted 0) register (add register new)
-  recorded-none none = rw (eq-eqb accepted 0 none)
+  pub recorded-none : accepted ≡ 0 → index ≡ indexBy indexed index register → RecordTold indexed register index new accepted register index 0
+  unfolding slotsReadBy
+  recorded-none none kept = let e = eq-eqb accepted 0 none in record { recorded = rw e; kept = rw e kept; read = rw e }
 
 -- ---- what the callees ask
 
@@ -81,6 +103,25 @@ module _ (terms : Terms) (sheet table positions : List ℕ) (header : Header) (r
       record {
         senderWide = ap length es ∙ sender-width sheet (header .at) (ready .within);
         identifierWide = ap length ei ∙ bulk-identifier-width sheet (header .at) (ready .within);
+      }
+
+  pub key-wide : (sender identifier key : List ℕ) → sender ≡ senderOf (headerIn sheet header) → identifier ≡ bulkIdentifierOf (headerIn sheet header)
+      → key ≡ keyOf sender identifier bulkTag → length key ≡ keyWidth
+  key-wide sender identifier key es ei made = ap length made ∙ key-length sender identifier bulkTag (bulk-parts sender identifier es ei)
+
+-- the places that a bulk asks for, and what its messages leave of them
+module _ (indexed : Bool) (register index : List ℕ) (n : ℕ) (ready : Ready indexed register index (n + 1)) where
+  pub ready-for : (m : ℕ) → m ≤ n + 1 → Ready indexed register index m
+  ready-for m h = record { spare = spare-less register (n + 1) m h (ready .spare); kept = ready .kept }
+
+  pub ready-after : (terms : Terms) (table header : List ℕ) (fallen : Bool) (messages : List (List ℕ)) (positions out register' index' positions' out' : List ℕ) (counts : Counts)
+      → length messages ≡ n → MessagesTold terms table header fallen indexed messages (stateOf register positions) index out register' index' positions' out' counts
+      → Ready indexed register' index' 1
+  ready-after terms table header fallen messages positions out register' index' positions' out' counts many told =
+      record {
+        spare = rw (told .register)
+            (messages-spare terms table header fallen messages (stateOf register positions) 1 (rw many (ready .spare)));
+        kept = index-own index index' register' indexed (told .kept ∙ (rw (told .register)));
       }
 
 -- ---- the places in the report
@@ -112,59 +153,101 @@ either-positions : (b : Bool) (x y : State) → y .positions ≡ x .positions �
 either-positions true x y e = refl
 either-positions false x y e = sym e
 
-module _ (terms : Terms) (table sheet : List ℕ) (header : Header) (section : Section) (before : State) (report : List ℕ) (places : Places) where
-  faults-are : (faults sum : ℕ) → sum ≡ sumOf (messagesOf sheet (header .kind) section) → faults ≡ bulkFaults terms table (before .register) (headerIn sheet header) (section .number) sum
-      → faults ≡ faultsOfBulk terms table (bulkIn sheet header section) before
-  faults-are faults sum es ef = ef ∙ (rw (es, records-length (messageWidth (header .kind)) sheet (section .number) (section .at)))
+module _ (terms : Terms) (table sheet : List ℕ) (indexed : Bool) (header : Header) (section : Section) (before : State) (index report : List ℕ) (places : Places)
+    (sender identifier key : List ℕ) (er : sender ≡ senderOf (headerIn sheet header)) (ei : identifier ≡ bulkIdentifierOf (headerIn sheet header)) (ek : key ≡ keyOf sender identifier bulkTag)
+    (sought : Sought) (found : SoughtTold indexed (before .register) key sought)
+    (faults sum : ℕ) (es : sum ≡ sumOf (messagesOf sheet (header .kind) section))
+    (ef : faults ≡ mask (bulkFactsGiven (sought .there) terms table (headerIn sheet header) (section .number) sum)) where
+  abbrev bulk : Bulk
+  bulk = bulkIn sheet header section
 
-  module _ (faults sum : ℕ) (es : sum ≡ sumOf (messagesOf sheet (header .kind) section))
-      (ef : faults ≡ bulkFaults terms table (before .register) (headerIn sheet header) (section .number) sum)
-      (tally : Tally) (lent register₁ positions₁ lent₁ : List ℕ)
-      (told : MessagesTold terms table (headerIn sheet header) (not (eqb faults 0)) (messagesOf sheet (header .kind) section) before lent register₁ positions₁ lent₁ tally) where
-    judged : MessagesTold terms table (headerIn sheet header) (falls terms table (bulkIn sheet header section) before) (messagesOf sheet (header .kind) section) before lent register₁ positions₁ lent₁ tally
-    judged = rw (faults-are faults sum es ef) at told
+  key-is : key ≡ keyOf (senderOf (headerIn sheet header)) (bulkIdentifierOf (headerIn sheet header)) bulkTag
+  key-is = ek ∙ (rw (er, ei))
 
-    module _ (sender identifier : List ℕ) (er : sender ≡ senderOf (headerIn sheet header)) (ei : identifier ≡ bulkIdentifierOf (headerIn sheet header))
-        (register₂ : List ℕ) (recorded : register₂ ≡ cond (eqb (totalsOf tally .acceptedNumber) 0) register₁ (add register₁ (key sender identifier bulkTag))) where
-      register-is : register₂ ≡ afterBulk terms table (bulkIn sheet header section) before .register
-      unfolding afterBulk
-      register-is =
-          recorded
-          ∙ (rw (ap (λ (t : Totals). t .acceptedNumber) (judged .totals), judged .register, er, ei)
-          (either-register (eqb (messagesJudged terms table (bulkIn sheet header section) before .totals .acceptedNumber) 0) _ _))
+  pub faults-are : faults ≡ faultsOfBulk terms table bulk before
+  unfolding bulkFaults
+  faults-are = ef ∙ (rw (es, found .there, key-is, records-length (messageWidth (header .kind)) sheet (section .number) (section .at)))
 
-      positions-are : positions₁ ≡ afterBulk terms table (bulkIn sheet header section) before .positions
-      unfolding afterBulk
-      positions-are =
-          judged .positions
-          ∙ either-positions (eqb (messagesJudged terms table (bulkIn sheet header section) before .totals .acceptedNumber) 0)
-          (messagesJudged terms table (bulkIn sheet header section) before .after) _ refl
+  module _ (counts : Counts) (lent register₁ index₁ positions₁ lent₁ : List ℕ)
+      (told : MessagesTold terms table (headerIn sheet header) (not (eqb faults 0)) indexed (messagesOf sheet (header .kind) section) before index lent register₁ index₁ positions₁ lent₁ counts)
+      (register₂ index₂ : List ℕ) (again : ℕ) (recorded : RecordTold indexed register₁ index₁ key (totalsOf (counts .tally) .acceptedNumber) register₂ index₂ again) where
+    judged : MessagesTold terms table (headerIn sheet header) (falls terms table bulk before) indexed (messagesOf sheet (header .kind) section) before index lent register₁ index₁ positions₁ lent₁ counts
+    judged = rw faults-are at told
 
-      module _ (report₁ report₂ report₃ : List ℕ) (outcome : ℕ)
-          (counted : report₁ ≡ sets report (places .section) (bytesOf countWidth (section .number)))
-          (lines : report₂ ≡ sets report₁ (linesAt (places .section)) (judgeMessages terms table (headerIn sheet header) (not (eqb faults 0)) (messagesOf sheet (header .kind) section) before .lines))
-          (eo : outcome ≡ bulkOutcome (not (eqb faults 0)) (totalsOf tally))
-          (lined : report₃ ≡ sets report₂ (places .line) (bulkLine identifier outcome faults (totalsOf tally))) where
-        section-is : report₂ ≡ sets report (places .section) (sectionOf terms table (bulkIn sheet header section) before)
-        unfolding sectionOf
-        section-is =
-            let after = messagesJudged terms table (bulkIn sheet header section) before .lines in
-            (rw (faults-are faults sum es ef) at lines)
-            ∙ ap (λ (r : List ℕ). sets r (linesAt (places .section)) after) counted
-            ∙ sets-then report (places .section) countWidth (bytesOf countWidth (section .number)) after (bytes-length countWidth (section .number))
-            ∙ ap (λ (k : ℕ). sets report (places .section) (bytesOf countWidth k ++ after)) (sym (records-length (messageWidth (header .kind)) sheet (section .number) (section .at)))
+    abbrev after : State
+    after = messagesJudged terms table bulk before .after
 
-        line-is : bulkLine identifier outcome faults (totalsOf tally) ≡ bulkLineOf terms table (bulkIn sheet header section) before
-        unfolding bulkLineOf
-        line-is =
-            ap (λ (o : ℕ). bulkLine identifier o faults (totalsOf tally)) eo
-            ∙ ap (λ (t : Totals). bulkLine identifier (bulkOutcome (not (eqb faults 0)) t) faults t) (judged .totals)
-            ∙ (rw (faults-are faults sum es ef, ei))
+    number-is : totalsOf (counts .tally) .acceptedNumber ≡ messagesJudged terms table bulk before .totals .acceptedNumber
+    number-is = ap (λ (t : Totals). t .acceptedNumber) (judged .totals)
 
-        pub bulk-told : BulkTold terms table (bulkIn sheet header section) before report places register₂ positions₁ report₃
-        bulk-told =
-            record {
-              register = register-is;
-              positions = positions-are;
-              written = lined ∙ (rw (line-is, section-is));
-            }
+    new-is : cond (eqb (totalsOf (counts .tally) .acceptedNumber) 0) register₁ (add register₁ key) ≡ afterBulk terms table bulk before .register
+    unfolding afterBulk
+    new-is =
+        rw (number-is, judged .register, key-is)
+        (either-register (eqb (messagesJudged terms table bulk before .totals .acceptedNumber) 0) _ _)
+
+    kept-is : index₂ ≡ indexBy indexed index (afterBulk terms table bulk before .register)
+    kept-is =
+        recorded .kept
+        ∙ index-then index index₁ (after .register) indexed (judged .kept) _
+        ∙ ap (indexBy indexed index) new-is
+
+    positions-are : positions₁ ≡ afterBulk terms table bulk before .positions
+    unfolding afterBulk
+    positions-are =
+        judged .positions
+        ∙ either-positions (eqb (messagesJudged terms table bulk before .totals .acceptedNumber) 0) after _ refl
+
+    -- the slots of the three searches
+    again-is : again ≡ slotsReadBy indexed (searchAgain (headerIn sheet header) (messagesJudged terms table bulk before .totals .acceptedNumber) after)
+    again-is = recorded .read ∙ (rw (number-is, judged .register, key-is))
+
+    first-is : sought .ended .read ≡ slotsRead indexed (bulkSearch (headerIn sheet header) before)
+    first-is =
+        ap (λ (e : End). e .read) (found .ended)
+        ∙ ap (λ (k : List ℕ). cond indexed (endIn (before .register) k) nowhere .read) key-is
+        ∙ read-of indexed (bulkSearch (headerIn sheet header) before)
+
+    read-is : sought .ended .read + counts .slots + again ≡ slotsReadBy indexed (bulkSearches terms table bulk before)
+    read-is =
+        let all = bulk-slots terms table indexed bulk before in
+        omega (arith, all, first-is, judged .slots, again-is)
+
+    pub read-fits : section .number ≤ mostCounted → sought .ended .read + counts .slots + again < 2 ^ 64
+    read-fits few =
+        let one = slots-few terms table indexed (bulk ∷ []) before in
+        let split = slots-split terms table indexed bulk [] before in
+        let many = records-length (messageWidth (header .kind)) sheet (section .number) (section .at) in
+        let count : countMessages (bulk ∷ []) ≡ section .number = (rw (count-one bulk, many)) in
+        omega (arith, one, split, read-is, count)
+
+    module _ (report₁ report₂ report₃ : List ℕ) (outcome : ℕ)
+        (counted : report₁ ≡ sets report (places .section) (bytesOf countWidth (section .number)))
+        (lines : report₂ ≡ sets report₁ (linesAt (places .section)) (judgeMessages terms table (headerIn sheet header) (not (eqb faults 0)) (messagesOf sheet (header .kind) section) before .lines))
+        (eo : outcome ≡ bulkOutcome (not (eqb faults 0)) (totalsOf (counts .tally)))
+        (lined : report₃ ≡ sets report₂ (places .line) (bulkLine identifier outcome faults (totalsOf (counts .tally)))) where
+      section-is : report₂ ≡ sets report (places .section) (sectionOf terms table bulk before)
+      unfolding sectionOf
+      section-is =
+          let told = messagesJudged terms table bulk before .lines in
+          (rw faults-are at lines)
+          ∙ ap (λ (r : List ℕ). sets r (linesAt (places .section)) told) counted
+          ∙ sets-then report (places .section) countWidth (bytesOf countWidth (section .number)) told (bytes-length countWidth (section .number))
+          ∙ ap (λ (k : ℕ). sets report (places .section) (bytesOf countWidth k ++ told)) (sym (records-length (messageWidth (header .kind)) sheet (section .number) (section .at)))
+
+      line-is : bulkLine identifier outcome faults (totalsOf (counts .tally)) ≡ bulkLineOf terms table bulk before
+      unfolding bulkLineOf
+      line-is =
+          ap (λ (o : ℕ). bulkLine identifier o faults (totalsOf (counts .tally))) eo
+          ∙ ap (λ (t : Totals). bulkLine identifier (bulkOutcome (not (eqb faults 0)) t) faults t) (judged .totals)
+          ∙ (rw (faults-are, ei))
+
+      pub bulk-told : BulkTold terms table indexed bulk before index report places register₂ index₂ positions₁ report₃ (sought .ended .read + counts .slots + again)
+      bulk-told =
+          record {
+            register = recorded .recorded ∙ new-is;
+            kept = kept-is;
+            positions = positions-are;
+            written = lined ∙ (rw (line-is, section-is));
+            read = read-is;
+          }

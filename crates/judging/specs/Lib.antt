@@ -1,3 +1,5 @@
 pub mod Judgement
+pub mod Searches
 pub mod Outcome
+pub mod Indexed
 pub mod Ready

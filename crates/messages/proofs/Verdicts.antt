@@ -1,9 +1,10 @@
 -- A message's verdict, line and state, from what the calls that made them told. Assumes nothing.
 use mathlib.Core.Path.{_≡_, sym, ap, subst, _∙_}
-use mathlib.Core.Bool.{Bool, true, false, not, _&&_}
+use mathlib.Core.Bool.{Bool, true, false, cond, not, _&&_}
 use mathlib.Core.List.{List}
 use mathlib.Core.Option.{Option}
 use Prim.Native.Nat.{ℕ, _+_, _≤_}
+use native.Mathlib.Omega.{arith}
 use lib.Dec.{eqb}
 use lib.ListN.{length}
 use lib.Seq.{sets}
@@ -14,16 +15,26 @@ use Rattle.sheet.specs.Sheet.{identifierWidth, messageWidth, senderOf, identifi
 use Rattle.sheet.specs.Reading.{MessageRead, headerIn, messageIn}
 use Rattle.sheet.specs.declared.Message.{Message}
 use Rattle.sheet.proofs.Fields.{sender-width, identifier-width}
-use Rattle.register.specs.Register.{key, messageTag, add}
+use Rattle.masks.specs.Mask.{mask}
+use Rattle.slots.specs.Slots.{End}
+use Rattle.register.specs.Register.{keyWidth, messageTag, key as keyOf}
 use Rattle.register.specs.Room.{Parts}
+use Rattle.register.proofs.Laws.{spare-less, key-length}
+use Rattle.index.specs.Index.{endIn}
+use Rattle.index.specs.Searches.{slotsRead}
+use Rattle.index.specs.Ready.{indexBy, nowhere, Ready, SoughtTold, EnterReady, Entered}
+use Rattle.index.specs.declared.Sought.{Sought}
+use Rattle.index.proofs.Ways.{read-of}
 use Rattle.rules.specs.declared.Terms.{Terms}
-use Rattle.faults.specs.Faults.{senderRow, receiverRow}
+use Rattle.faults.specs.Faults.{senderRow, receiverRow, messageFactsGiven, messageFaults}
 use Rattle.faults.specs.Asked.{MessageAsked}
 use Rattle.report.specs.Line.{messageLine, messageLineWidth}
 use Rattle.positions.specs.Positions.{pays}
 use Rattle.messages.specs.Messages.{State, isAccepted, messageOutcome, faultsOf, afterMessage, lineOf}
+use Rattle.messages.specs.Searches.{messageSearch}
 use Rattle.messages.specs.Ready.{PayReady, RulingReady, MessageReady, MessageTold}
 use Rattle.messages.specs.declared.Ruling.{Ruling}
+use Rattle.messages.specs.declared.Verdict.{Verdict}
 
 -- ---- what the callees ask
 
@@ -60,38 +71,76 @@ module _ (terms : Terms) (sheet table positions : List ℕ) (ruling : Ruling) (r
   ruling-kept positions' kept =
       record { headerWithin = ready .headerWithin; headerRead = ready .headerRead; rowFound = ready .rowFound; places = kept ∙ ready .places }
 
+pub key-wide : (sender identifier key : List ℕ) → Parts sender identifier → key ≡ keyOf sender identifier messageTag → length key ≡ keyWidth
+key-wide sender identifier key parts made = ap length made ∙ key-length sender identifier messageTag parts
+
+-- a place is left for the key, which was sought just before
+module _ (indexed : Bool) (register index : List ℕ) where
+  pub seek-ready : Ready indexed register index 1 → Ready indexed register index 0
+  seek-ready ready = record { spare = spare-less register 1 0 (omega arith) (ready .spare); kept = ready .kept }
+
+  pub enter-ready : (sender identifier key : List ℕ) → Ready indexed register index 1 → Parts sender identifier → key ≡ keyOf sender identifier messageTag
+      → (sought : Sought) → SoughtTold indexed register key sought → EnterReady indexed register index key sought
+  enter-ready sender identifier key ready parts made sought told =
+      record { ready = ready; wide = key-wide sender identifier key parts made; told = told }
+
 -- ---- what the calls come to
 
-module _ (terms : Terms) (table header : List ℕ) (fallen : Bool) (message : List ℕ) (before : State) (at : ℕ) (out : List ℕ)
-    (faults : ℕ) (told : faults ≡ faultsOf terms table header message before)
-    (identifier : List ℕ) (named : identifier ≡ identifierOf message)
+module _ (terms : Terms) (table header : List ℕ) (fallen indexed : Bool) (message : List ℕ) (before : State) (index : List ℕ) (at : ℕ) (out : List ℕ)
+    (sender identifier key : List ℕ) (sent : sender ≡ senderOf header) (named : identifier ≡ identifierOf message) (made : key ≡ keyOf sender identifier messageTag)
+    (sought : Sought) (told : SoughtTold indexed (before .register) key sought)
+    (faults : ℕ) (found : faults ≡ mask (messageFactsGiven (sought .there) terms table header message))
     (outcome : ℕ) (judged : outcome ≡ messageOutcome fallen faults)
-    (out' : List ℕ) (written : out' ≡ sets out at (messageLine identifier outcome faults)) where
+    (out' : List ℕ) (written : out' ≡ sets out at (messageLine identifier outcome faults))
+    (verdict : Verdict) (slots : verdict .slots ≡ sought .ended .read) where
+  key-is : key ≡ keyOf (senderOf header) (identifierOf message) messageTag
+  key-is = made ∙ (rw (sent, named))
+
+  faults-is : faults ≡ faultsOf terms table header message before
+  unfolding messageFaults
+  faults-is = found ∙ (rw (told .there, key-is))
+
   line-is : out' ≡ sets out at (lineOf terms table header fallen message before)
   unfolding lineOf
-  line-is = written ∙ (rw (judged, named, told))
+  line-is = written ∙ (rw (judged, named, faults-is))
 
-  pub accepted-told : (not fallen && eqb faults 0) ≡ true
-      → (sender register' : List ℕ) → sender ≡ senderOf header → register' ≡ add (before .register) (key sender identifier messageTag)
+  slots-is : verdict .slots ≡ slotsRead indexed (messageSearch header message before)
+  slots-is =
+      slots
+      ∙ ap (λ (e : End). e .read) (told .ended)
+      ∙ ap (λ (k : List ℕ). cond indexed (endIn (before .register) k) nowhere .read) key-is
+      ∙ read-of indexed (messageSearch header message before)
+
+  pub accepted-told : (not fallen && eqb faults 0) ≡ true → verdict .accepted ≡ true
+      → (register' index' : List ℕ) → Entered indexed (before .register) index key register' index'
       → (from to : Option ℕ) (amount : ℕ) (positions' : List ℕ) → from ≡ senderRow terms table header → to ≡ receiverRow terms table message
       → amount ≡ amountOf message → positions' ≡ pays (before .positions) from to amount
-      → MessageTold terms table header fallen message before at out register' positions' out' true
+      → MessageTold terms table header fallen indexed message before index at out register' index' positions' out' verdict
   unfolding afterMessage
-  accepted-told clean sender register' es er from to amount positions' ef et ea ep =
-      let verdict : true ≡ isAccepted fallen (faultsOf terms table header message before) = sym clean ∙ ap (isAccepted fallen) told in
+  accepted-told clean passed register' index' entered from to amount positions' ef et ea ep =
+      let yes : true ≡ isAccepted fallen (faultsOf terms table header message before) = sym clean ∙ ap (isAccepted fallen) faults-is in
       record {
-        verdict = verdict;
-        register = er ∙ (rw (← verdict, es, named));
-        positions = ep ∙ (rw (← verdict, ef, et, ea));
+        accepted = passed ∙ yes;
+        slots = slots-is;
+        register = entered .recorded ∙ (rw (← yes, key-is));
+        kept = entered .kept ∙ (rw (← yes, key-is));
+        positions = ep ∙ (rw (← yes, ef, et, ea));
         line = line-is;
       }
 
-  pub rejected-told : (not fallen && eqb faults 0) ≡ false
-      → MessageTold terms table header fallen message before at out (before .register) (before .positions) out' false
+  pub rejected-told : (not fallen && eqb faults 0) ≡ false → verdict .accepted ≡ false → index ≡ indexBy indexed index (before .register)
+      → MessageTold terms table header fallen indexed message before index at out (before .register) index (before .positions) out' verdict
   unfolding afterMessage
-  rejected-told unclean =
-      let verdict : false ≡ isAccepted fallen (faultsOf terms table header message before) = sym unclean ∙ ap (isAccepted fallen) told in
-      record { verdict = verdict; register = rw (← verdict); positions = rw (← verdict); line = line-is }
+  rejected-told unclean failed kept =
+      let no : false ≡ isAccepted fallen (faultsOf terms table header message before) = sym unclean ∙ ap (isAccepted fallen) faults-is in
+      record {
+        accepted = failed ∙ no;
+        slots = slots-is;
+        register = rw (← no);
+        kept = rw (← no) kept;
+        positions = rw (← no);
+        line = line-is;
+      }
 
 -- ---- a message that was read
 

@@ -14,15 +14,19 @@ use Rattle.sheet.specs.Sheet.{headerWidth, messageWidth, recordsAt}
 use Rattle.sheet.specs.Reading.{HeaderRead, MessageRead, headerIn}
 use Rattle.sheet.specs.declared.Message.{Message}
 use Rattle.sheet.specs.declared.Section.{Section}
+use Rattle.index.specs.Searches.{slotsRead, slotsReadBy}
+use Rattle.index.specs.Ready.{indexBy}
 use Rattle.positions.specs.Positions.{positionWidth}
 use Rattle.rules.specs.declared.Terms.{Terms}
 use Rattle.faults.specs.Faults.{senderRow}
 use Rattle.tally.specs.Tally.{Totals, totalsOf}
 use Rattle.tally.specs.Room.{Room, mostCounted}
-use Rattle.tally.specs.declared.Tally.{Tally}
 use Rattle.report.specs.Line.{messageLineWidth}
 use Rattle.messages.specs.Messages.{State, isAccepted, faultsOf, afterMessage, lineOf, judgeMessages}
+use Rattle.messages.specs.Searches.{messageSearch, messageSearches}
 use Rattle.messages.specs.declared.Ruling.{Ruling}
+use Rattle.messages.specs.declared.Verdict.{Verdict}
+use Rattle.messages.specs.declared.Counts.{Counts}
 
 abbrev pub stateOf : List ℕ → List ℕ → State
 stateOf register positions = record { register = register; positions = positions }
@@ -65,17 +69,21 @@ pub record MessageReady (sheet : List ℕ) (message : Message) (out : List ℕ) 
   pub read : MessageRead sheet (message .kind) (message .at) message
   pub space : at + messageLineWidth ≤ length out
 
-module _ (terms : Terms) (table header : List ℕ) (fallen : Bool) where
-  pub record MessageTold (message : List ℕ) (before : State) (at : ℕ) (out register' positions' out' : List ℕ) (accepted : Bool) : Type 0 where
-    pub verdict : accepted ≡ isAccepted fallen (faultsOf terms table header message before)
+module _ (terms : Terms) (table header : List ℕ) (fallen indexed : Bool) where
+  pub record MessageTold (message : List ℕ) (before : State) (index : List ℕ) (at : ℕ) (out register' index' positions' out' : List ℕ) (verdict : Verdict) : Type 0 where
+    pub accepted : verdict .accepted ≡ isAccepted fallen (faultsOf terms table header message before)
+    pub slots : verdict .slots ≡ slotsRead indexed (messageSearch header message before)
     pub register : register' ≡ afterMessage terms table header fallen message before .register
+    pub kept : index' ≡ indexBy indexed index (afterMessage terms table header fallen message before .register)
     pub positions : positions' ≡ afterMessage terms table header fallen message before .positions
     pub line : out' ≡ sets out at (lineOf terms table header fallen message before)
 
   -- ---- the messages of a bulk, whose lines fill what was lent of the report
 
-  pub record MessagesTold (messages : List (List ℕ)) (before : State) (out register' positions' out' : List ℕ) (tally : Tally) : Type 0 where
-    pub totals : totalsOf tally ≡ judgeMessages terms table header fallen messages before .totals
+  pub record MessagesTold (messages : List (List ℕ)) (before : State) (index out register' index' positions' out' : List ℕ) (counts : Counts) : Type 0 where
+    pub totals : totalsOf (counts .tally) ≡ judgeMessages terms table header fallen messages before .totals
+    pub slots : counts .slots ≡ slotsReadBy indexed (messageSearches terms table header fallen messages before)
     pub register : register' ≡ judgeMessages terms table header fallen messages before .after .register
+    pub kept : index' ≡ indexBy indexed index (judgeMessages terms table header fallen messages before .after .register)
     pub positions : positions' ≡ judgeMessages terms table header fallen messages before .after .positions
     pub lines : out' ≡ sets out 0 (judgeMessages terms table header fallen messages before .lines)

@@ -5,6 +5,7 @@ ghost use Prim.Native.Nat.{_*_, _≤_};
 ghost use lib.ListN.{length};
 ghost use Rattle.routing.specs.Lookup.{optionOf};
 ghost use Rattle.sheet.specs.Reading.{headerIn, messageIn};
+ghost use Rattle.index.specs.Ready.{Ready};
 ghost use Rattle.positions.specs.Positions.{pays};
 ghost use Rattle.tally.specs.Tally.{centsOf, totalsOf, withAccepted, withRejected};
 ghost use Rattle.report.specs.Line.{messageLineWidth};
@@ -31,6 +32,18 @@ pub struct Ruling {
     pub header: Header,
     pub row: Found,
     pub fallen: bool,
+}
+
+// What became of a message: whether it was accepted, and the slots that the search of its key read.
+struct Verdict {
+    accepted: bool,
+    slots: u32,
+}
+
+// What a bulk's messages come to, and the slots that were read for them.
+pub struct Counts {
+    pub tally: Tally,
+    pub slots: u64,
 }
 
 // The true sum of the amounts of a section's messages, which are of a kind.
@@ -91,35 +104,46 @@ fn count_message(tally: Tally, accepted: bool, amount: u64) -> Tally
     }
 }
 
-// Judges one message and writes its line at place `to` of `out`. Whether it was accepted.
+// Judges one message and writes its line at place `to` of `out`.
 fn judge_message(
     terms: Terms,
     sheet: &[u8],
     table: &[u8],
+    indexed: bool,
     register: &mut [u8],
+    index: &mut [u8],
     positions: &mut [u8],
     out: &mut [u8],
     ruling: Ruling,
     message: Message,
     to: usize,
-) -> bool
-    requires { ⌜ (RulingReady terms (now sheet) (now table) (now positions) ruling) × (MessageReady (now sheet) message (now out) to) ⌝ }
-    ensures { λ r. ⌜ MessageTold terms (now (table .entry)) (headerIn (now (sheet .entry)) (ruling .header)) (ruling .fallen) (messageIn (now (sheet .entry)) message) (stateOf (now (register .entry)) (now (positions .entry))) to (now (out .entry)) (now (register .exit)) (now (positions .exit)) (now (out .exit)) r ⌝ }
+) -> Verdict
+    requires { ⌜ (RulingReady terms (now sheet) (now table) (now positions) ruling) × (MessageReady (now sheet) message (now out) to) × (Ready indexed (now register) (now index) 1) ⌝ }
+    ensures { λ r. ⌜ MessageTold terms (now (table .entry)) (headerIn (now (sheet .entry)) (ruling .header)) (ruling .fallen) indexed (messageIn (now (sheet .entry)) message) (stateOf (now (register .entry)) (now (positions .entry))) (now (index .entry)) to (now (out .entry)) (now (register .exit)) (now (index .exit)) (now (positions .exit)) (now (out .exit)) r ⌝ }
 {
     let header = ruling.header;
     let row = ruling.row;
     let fallen = ruling.fallen;
-    let found = routing::route(terms.date, table, message.receiver(sheet));
-    let faults = faults::message_faults(terms, sheet, table, register, header, message, found);
     let identifier = message.identifier(sheet);
+    let key = register::key_of(header.sender(sheet), identifier, register::MESSAGE);
+    let sought = index::seek(indexed, register, index, &key);
+    let found = routing::route(terms.date, table, message.receiver(sheet));
+    let faults = faults::message_faults(terms, sheet, table, header, message, found, sought.there);
     report::put_message_line(out, to, identifier, message_outcome(fallen, faults), faults);
+    let ended = sought.ended;
+    let slots = ended.read;
     if !fallen & (faults == 0) {
-        let key = register::key_of(header.sender(sheet), identifier, register::MESSAGE);
-        register::add(register, &key);
+        index::enter(indexed, register, index, &key, sought);
         pay(table, positions, row, found, message.amount);
-        true
+        Verdict {
+            accepted: true,
+            slots,
+        }
     } else {
-        false
+        Verdict {
+            accepted: false,
+            slots,
+        }
     }
 }
 
@@ -128,40 +152,46 @@ pub fn judge_messages(
     terms: Terms,
     sheet: &[u8],
     table: &[u8],
+    indexed: bool,
     register: &mut [u8],
+    index: &mut [u8],
     positions: &mut [u8],
     out: &mut [u8],
     ruling: Ruling,
     section: Section,
-) -> Tally
-    requires { ⌜ (RulingReady terms (now sheet) (now table) (now positions) ruling) × (SectionReady (now sheet) (ruling .header .kind) section) × (messageLineWidth * section .number ≤ length (now out)) ⌝ }
-    ensures { λ r. ⌜ MessagesTold terms (now (table .entry)) (headerIn (now (sheet .entry)) (ruling .header)) (ruling .fallen) (messagesOf (now (sheet .entry)) (ruling .header .kind) section) (stateOf (now (register .entry)) (now (positions .entry))) (now (out .entry)) (now (register .exit)) (now (positions .exit)) (now (out .exit)) r ⌝ }
+) -> Counts
+    requires { ⌜ (RulingReady terms (now sheet) (now table) (now positions) ruling) × (SectionReady (now sheet) (ruling .header .kind) section) × (messageLineWidth * section .number ≤ length (now out)) × (Ready indexed (now register) (now index) (section .number)) ⌝ }
+    ensures { λ r. ⌜ MessagesTold terms (now (table .entry)) (headerIn (now (sheet .entry)) (ruling .header)) (ruling .fallen) indexed (messagesOf (now (sheet .entry)) (ruling .header .kind) section) (stateOf (now (register .entry)) (now (positions .entry))) (now (index .entry)) (now (out .entry)) (now (register .exit)) (now (index .exit)) (now (positions .exit)) (now (out .exit)) r ⌝ }
 {
     let header = ruling.header;
     let kind = header.kind;
     let n = section.number;
     let at = section.at;
     let mut tally = Tally::new();
+    let mut slots: u64 = 0;
     let mut cursor = Cursor { at };
     let mut j = 0;
     while j < n {
         let message = cursor.message(sheet, kind);
         let to = report::line_place(j);
-        let accepted = judge_message(
+        let verdict = judge_message(
             terms,
             sheet,
             table,
+            indexed,
             register,
+            index,
             positions,
             out,
             ruling,
             message,
             to,
         );
-        tally = count_message(tally, accepted, message.amount);
+        tally = count_message(tally, verdict.accepted, message.amount);
+        slots += verdict.slots as u64;
         let next = message.next;
         cursor = next;
         j += 1;
     }
-    tally
+    Counts { tally, slots }
 }

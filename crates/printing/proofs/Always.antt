@@ -13,7 +13,7 @@ use Rattle.sheet.proofs.Laws.{whole-facts}
 use Rattle.positions.specs.Positions.{positionWidth}
 use Rattle.report.specs.Line.{reportLength}
 use Rattle.report.proofs.Laws.{lines-small}
-use Rattle.refusing.specs.Refusals.{holds}
+use Rattle.refusing.specs.Refusals.{holdsGiven, holds}
 use Rattle.refusing.specs.declared.Refusal.the-variants.{Positions, Space}
 use Rattle.frame.specs.Frame.{mostPart, mostInput, inShape}
 use Rattle.frame.specs.Read.{Begins, ReadOf}
@@ -64,7 +64,7 @@ report-no-longer sheet e =
 
 -- so the program's report space lacks nothing: refusal 11 is asked of whole sheets only, and never holds
 pub report-fits : (input : List ℕ) → inShape input ≡ true → whole (callIn input .sheet) ≡ true → holds Space (callIn input) ≡ false
-unfolding holds
+unfolding holdsGiven
 report-fits input e kept =
     let small = sheet-fits input e in
     let long = zeros-length mostPart in
@@ -73,5 +73,5 @@ report-fits input e kept =
 
 -- nor do the positions: refusal 3 never holds
 pub positions-fit : (input : List ℕ) → holds Positions (callIn input) ≡ false
-unfolding holds
+unfolding holdsGiven
 positions-fit input = rw (zeros-length (positionWidth * rows (callIn input .table)), eq-eqb (positionWidth * rows (callIn input .table)) _ refl)

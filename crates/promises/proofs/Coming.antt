@@ -26,7 +26,7 @@ use Rattle.refusing.specs.Refusals.{Call, refusalNumber, refusal}
 use Rattle.refusing.proofs.Numbers.{refusal-named}
 use Rattle.judging.specs.Outcome.{outcome, answerNumber, answerLength, left}
 use Rattle.refusing.specs.declared.Refusal.{Refusal}
-use Rattle.refusing.specs.declared.Refusal.the-variants.{Date, Table, Positions, Register, Sheet, Size, Kind, Order, Room, Limit, Space}
+use Rattle.refusing.specs.declared.Refusal.the-variants.{Date, Table, Positions, Register, IndexLength, IndexContents, Sheet, Size, Kind, Order, Room, Limit, Space}
 use Rattle.judging.specs.declared.Answer.{Answer}
 use Rattle.judging.specs.declared.Answer.the-variants.{Refused, Judged}
 use Rattle.refusing.proofs.Clear.{clear-of}
@@ -57,6 +57,8 @@ refused-held Date = (held-as, lit< tt)
 refused-held Table = (held-as, lit< tt)
 refused-held Positions = (held-as, lit< tt)
 refused-held Register = (held-as, lit< tt)
+refused-held IndexLength = (held-as, lit< tt)
+refused-held IndexContents = (held-as, lit< tt)
 refused-held Sheet = (held-as, lit< tt)
 refused-held Size = (held-as, lit< tt)
 refused-held Kind = (held-as, lit< tt)

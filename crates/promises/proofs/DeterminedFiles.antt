@@ -103,6 +103,12 @@ module _ {M : Type 1} (𝓤 : URA M) (H : Heap 𝓤) (A : Atoms 𝓤) (mem : Mem
   pub register·used : Determined 𝓤 H A mem run register.used.ended register.used.clauses
   register·used κs a g r r' ws ws' h h' = (number 𝓤 _ (h .told) (h' .told), refl)
 
+  pub register·room : Determined 𝓤 H A mem run register.room.ended register.room.clauses
+  register·room κs a g r r' ws ws' h h' = (number 𝓤 _ (h .told) (h' .told), refl)
+
+  pub register·in-use : Determined 𝓤 H A mem run register.in_use.ended register.in_use.clauses
+  register·in-use κs a g r r' ws ws' h h' = (number 𝓤 _ (h .told) (h' .told), refl)
+
   pub register·free : Determined 𝓤 H A mem run register.free.ended register.free.clauses
   register·free κs a g r r' ws ws' h h' = (number 𝓤 _ (h .told) (h' .told), refl)
 

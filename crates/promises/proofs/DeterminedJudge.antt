@@ -14,7 +14,8 @@ use contract.Monad.{Fun}
 use Rattle.refusing.specs.declared.Refusal.the-variants.{Date}
 use Rattle.promises.specs.Determined.{Determined}
 use Rattle.promises.proofs.Told.{results, both, same, number, truth}
-use Rattle.promises.proofs.Readings.{cents-one, tally-one, checked-one, messages-left, outcomes, judged-one, door-one, way-one}
+use Rattle.promises.proofs.Readings.{cents-one, checked-one, outcomes, judged-one, door-one, way-one}
+use Rattle.promises.proofs.IndexReadings.{counts-one, messages-left}
 use Rattle.rules.proofs as rules
 use Rattle.faults.proofs as faults
 use Rattle.refusing.proofs as refusing
@@ -33,9 +34,6 @@ module _ {M : Type 1} (𝓤 : URA M) (H : Heap 𝓤) (A : Atoms 𝓤) (mem : Mem
 
   pub rules·date-wrong : Determined 𝓤 H A mem run rules.date_wrong.ended rules.date_wrong.clauses
   rules·date-wrong κs a g r r' ws ws' h h' = (truth 𝓤 _ (h .told) (h' .told), refl)
-
-  pub rules·repeated : Determined 𝓤 H A mem run rules.repeated.ended rules.repeated.clauses
-  rules·repeated κs a g r r' ws ws' h h' = (truth 𝓤 _ (h .told) (h' .told), refl)
 
   pub rules·empty : Determined 𝓤 H A mem run rules.empty.ended rules.empty.clauses
   rules·empty κs a g r r' ws ws' h h' = (truth 𝓤 _ (h .told) (h' .told), refl)
@@ -78,7 +76,7 @@ module _ {M : Type 1} (𝓤 : URA M) (H : Heap 𝓤) (A : Atoms 𝓤) (mem : Mem
   -- ---- refusing
 
   pub refusing·check : Determined 𝓤 H A mem run refusing.check.ended refusing.check.clauses
-  refusing·check κs a g r r' ws ws' h h' = (both 𝓤 (results refusing.check.ended κs) (λ t t'. checked-one Date _ r r' t t') (h .told) (h' .told), refl)
+  refusing·check κs a g r r' ws ws' h h' = (both 𝓤 (results refusing.check.ended κs) (λ t t'. checked-one Date _ _ r r' t t') (h .told) (h' .told), refl)
 
   pub refusing·number-of : Determined 𝓤 H A mem run refusing.number_of.ended refusing.number_of.clauses
   refusing·number-of κs a g r r' ws ws' h h' = (number 𝓤 _ (h .told) (h' .told), refl)
@@ -90,9 +88,10 @@ module _ {M : Type 1} (𝓤 : URA M) (H : Heap 𝓤) (A : Atoms 𝓤) (mem : Mem
 
   pub messages·judge-messages : Determined 𝓤 H A mem run messages.judge_messages.ended messages.judge_messages.clauses
   messages·judge-messages κs a g r r' ws ws' h h' = (
-    both 𝓤 (results messages.judge_messages.ended κs) (λ t t'. tally-one (h .held) (h' .held) (t .totals) (t' .totals)) (h .told) (h' .told),
+    both 𝓤 (results messages.judge_messages.ended κs) (λ t t'. counts-one (h .held) (h' .held) (t .totals) (t' .totals) (t .slots) (t' .slots)) (h .told) (h' .told),
     messages-left ws ws'
         (both 𝓤 (List·isSet ℕ-set) (λ t t'. t .register ∙ sym (t' .register)) (h .told) (h' .told))
+        (both 𝓤 (List·isSet ℕ-set) (λ t t'. t .kept ∙ sym (t' .kept)) (h .told) (h' .told))
         (both 𝓤 (List·isSet ℕ-set) (λ t t'. t .positions ∙ sym (t' .positions)) (h .told) (h' .told))
         (both 𝓤 (List·isSet ℕ-set) (λ t t'. t .lines ∙ sym (t' .lines)) (h .told) (h' .told)),
   )

@@ -5,11 +5,14 @@ pub mod Control
 pub mod Cutting
 pub mod DeterminedBytes
 pub mod DeterminedFiles
+pub mod DeterminedIndex
 pub mod DeterminedJudge
 pub mod DeterminedPrint
 pub mod DeterminedReader
 pub mod Entered
 pub mod Fit
+pub mod IndexReadings
+pub mod Indexing
 pub mod Joined
 pub mod Leaving
 pub mod Lines

@@ -1,7 +1,7 @@
 -- What a contract says of a struct or an enum through the value that it stands for says all of it: no two stand for the same.
 -- Assumes nothing.
 use mathlib.Core.Path.{_≡_, refl, sym, ap, _∙_}
-use mathlib.Core.Bool.{true, false, cond}
+use mathlib.Core.Bool.{Bool, true, false, cond}
 use mathlib.Core.List.{List, List·isSet}
 use mathlib.Core.Option.{Option, none, some}
 use Prim.Native.Nat.{ℕ, zero, suc, _+_, _-_, _*_, _^_, _<_}
@@ -35,7 +35,7 @@ use Rattle.tally.specs.declared.Side.{Side}
 use Rattle.tally.specs.declared.Tally.{Tally}
 use Rattle.report.specs.Told.{PlacesTold}
 use Rattle.report.specs.declared.Places.{Places}
-use Rattle.refusing.specs.Refusals.{Call, refusalNumber}
+use Rattle.refusing.specs.Refusals.{refusalNumber}
 use Rattle.refusing.specs.Checking.{Told as CheckTold}
 use Rattle.refusing.specs.declared.Checked.{Checked}
 use Rattle.refusing.specs.declared.Checked.the-variants.{Stopped, Fine}
@@ -95,14 +95,14 @@ pub routed-one : {table : List ℕ} {e : Routed} {x y : RoutingAnswer} → Answe
 routed-one {x = x} {y = y} p q = sym (routed-back x) ∙ ap routedOf (p .is ∙ sym (q .is)) ∙ routed-back y
 
 -- what was checked is a refusal, which has a number, or what the sheet holds
-pub checked-one : (first : Refusal) (call : Call) (x y : Checked) → CheckTold first call x → CheckTold first call y → x ≡ y
-checked-one first call (Stopped r) (Stopped s) p q = ap Stopped (number-tells r s (sym p ∙ q))
-checked-one first call (Stopped r) (Fine c) p q = absurd (eqb-false (refusalNumber r) 0 (some-number r) (sym p ∙ q .0))
-checked-one first call (Fine c) (Stopped s) p q = absurd (eqb-false (refusalNumber s) 0 (some-number s) (sym q ∙ p .0))
-checked-one first call (Fine c) (Fine d) p q =
+pub checked-one : (first : Refusal) (test : Refusal → Bool) (sheet : List ℕ) (x y : Checked) → CheckTold first test sheet x → CheckTold first test sheet y → x ≡ y
+checked-one first test sheet (Stopped r) (Stopped s) p q = ap Stopped (number-tells r s (sym p ∙ q))
+checked-one first test sheet (Stopped r) (Fine c) p q = absurd (eqb-false (refusalNumber r) 0 (some-number r) (sym p ∙ q .0))
+checked-one first test sheet (Fine c) (Stopped s) p q = absurd (eqb-false (refusalNumber s) 0 (some-number s) (sym q ∙ p .0))
+checked-one first test sheet (Fine c) (Fine d) p q =
     ap Fine (λ i. record { bulks = (p .1 .bulkCount ∙ sym (q .1 .bulkCount)) i; messages = (p .1 .messageCount ∙ sym (q .1 .messageCount)) i })
 
-answer-one : (x y : Answer) → answerNumber x ≡ answerNumber y → answerLength x ≡ answerLength y → x ≡ y
+pub answer-one : (x y : Answer) → answerNumber x ≡ answerNumber y → answerLength x ≡ answerLength y → x ≡ y
 answer-one (Refused r) (Refused s) e e' = ap Refused (number-tells r s e)
 answer-one (Refused r) (Judged n) e e' = absurd (eqb-false (refusalNumber r) 0 (some-number r) e)
 answer-one (Judged n) (Refused s) e e' = absurd (eqb-false (refusalNumber s) 0 (some-number s) (sym e))
@@ -211,14 +211,6 @@ Left = Unit {0} × (Unit {0} × (Unit {0} × (List ℕ × (List ℕ × (List ℕ
 left-one : {ws ws' : Left} → ws .1 .1 .1 .0 ≡ ws' .1 .1 .1 .0 → ws .1 .1 .1 .1 .0 ≡ ws' .1 .1 .1 .1 .0
     → ws .1 .1 .1 .1 .1 .0 ≡ ws' .1 .1 .1 .1 .1 .0 → ws ≡ ws'
 left-one p q e = λ i. (tt, (tt, (tt, (p i, (q i, (e i, tt))))))
-
--- what the judgement of a bulk's messages leaves, of its eight arguments
-abbrev MessagesLeft : Type 0
-MessagesLeft = Unit {0} × (Unit {0} × (Unit {0} × (List ℕ × (List ℕ × (List ℕ × (Unit {0} × (Unit {0} × Unit {0})))))))
-
-pub messages-left : (ws ws' : MessagesLeft) → ws .1 .1 .1 .0 ≡ ws' .1 .1 .1 .0 → ws .1 .1 .1 .1 .0 ≡ ws' .1 .1 .1 .1 .0
-    → ws .1 .1 .1 .1 .1 .0 ≡ ws' .1 .1 .1 .1 .1 .0 → ws ≡ ws'
-messages-left ws ws' p q e = λ i. (tt, (tt, (tt, (p i, (q i, (e i, (tt, (tt, tt))))))))
 
 -- the outcomes that two answers and what they leave make up
 module _ (ws ws' : Left) where

@@ -212,7 +212,7 @@ module _ (terms : Terms) (table : List ℕ) where
 
   module _ (st : State) (file : File) where
     abbrev call : Call
-    call = callOn outcome terms table file st
+    call = callOn terms table file st
 
     abbrev bulks : List Bulk
     bulks = bulksOf (file .sheet)
@@ -247,7 +247,7 @@ module _ (terms : Terms) (table : List ℕ) where
   run-tracked (f ∷ fs) st bytes =
       let first = file-tracked st f bytes in
       let next = stateAfter outcome terms table f st in
-      tracked-then terms table st next (run outcome terms table fs next .after) (accepted (f .sheet) (outcome (callOn outcome terms table f st))) (run outcome terms table fs next .accepted)
+      tracked-then terms table st next (run outcome terms table fs next .after) (accepted (f .sheet) (outcome (callOn terms table f st))) (run outcome terms table fs next .accepted)
       (first .tracked) (run-tracked fs next (first .bytes))
 
   run-recorded : (files : List File) (st : State)
@@ -256,10 +256,10 @@ module _ (terms : Terms) (table : List ℕ) where
   run-recorded [] st = sym (append-nil (entriesOf (st .register)))
   run-recorded (f ∷ fs) st =
       let next = stateAfter outcome terms table f st in
-      let new = recorded (f .sheet) (outcome (callOn outcome terms table f st)) in
+      let new = recorded (f .sheet) (outcome (callOn terms table f st)) in
       let later = run outcome terms table fs next .recorded in
       run-recorded fs next
-      ∙ ap (λ (es : List (List ℕ)). es ++ map entry later) (file-added (callOn outcome terms table f st) .entries)
+      ∙ ap (λ (es : List (List ℕ)). es ++ map entry later) (file-added (callOn terms table f st) .entries)
       ∙ append-assoc (entriesOf (st .register)) (map entry new) (map entry later)
       ∙ ap (λ (es : List (List ℕ)). entriesOf (st .register) ++ es) (sym (map-append entry new later))
 

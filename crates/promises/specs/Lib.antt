@@ -4,5 +4,6 @@ pub mod Code
 pub mod Cut
 pub mod Demands
 pub mod Runs
+pub mod Indexed
 pub mod Edges
 pub mod Wrong

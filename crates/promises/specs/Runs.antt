@@ -26,25 +26,26 @@ pub record Ran : Type 0 where
   pub recorded : List (List ℕ)
   pub after : State
 
-module _ (judge : Judge) (terms : Terms) (table : List ℕ) where
-  abbrev pub callOn : File → State → Call
-  callOn file before =
-      record {
-        terms = terms;
-        sheet = file .sheet;
-        table = table;
-        register = before .register;
-        positions = before .positions;
-        report = file .space;
-      }
+-- a file judged on a state
+abbrev pub callOn : Terms → List ℕ → File → State → Call
+callOn terms table file before =
+    record {
+      terms = terms;
+      sheet = file .sheet;
+      table = table;
+      register = before .register;
+      positions = before .positions;
+      report = file .space;
+    }
 
+module _ (judge : Judge) (terms : Terms) (table : List ℕ) where
   abbrev pub stateAfter : File → State → State
-  stateAfter file before = let left = judge (callOn file before) in record { register = left .register; positions = left .positions }
+  stateAfter file before = let left = judge (callOn terms table file before) in record { register = left .register; positions = left .positions }
 
   unfoldable pub run : List File → State → Ran
   run [] before = record { accepted = []; recorded = []; after = before }
   run (f ∷ fs) before =
-      let left = judge (callOn f before) in
+      let left = judge (callOn terms table f before) in
       let rest = run fs (stateAfter f before) in
       record {
         accepted = accepted (f .sheet) left ++ rest .accepted;

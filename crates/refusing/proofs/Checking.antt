@@ -1,43 +1,68 @@
 -- How the functions that ask one condition each hand on: where it holds, that is the answer; where not, that of the conditions after it.
 -- Assumes nothing.
 use mathlib.Core.Path.{_≡_, sym, ap, _∙_}
-use mathlib.Core.Bool.{Bool, true, false, not, _||_}
+use mathlib.Core.Bool.{Bool, true, false, not, _&&_, _||_, false≢true}
 use mathlib.Core.List.{List, [], _∷_}
 use mathlib.Core.Option.{some}
 use Prim.Native.Nat.{ℕ, _+_, _*_, _≤_}
-use lib.Dec.{ltb}
+use lib.Dec.{eqb, ltb}
 use lib.ListN.{length}
-use borrow.Author.Tests.{ltb-false}
+use borrow.Author.Tests.{ltb-false, eqb-true, not-false}
 use Rattle.wire.proofs.Sides.{both-false}
 use Rattle.sheet.specs.Sheet.{countWidth, headerWidth, shape}
 use Rattle.sheet.proofs.Laws.{whole-facts, shape-facts}
-use Rattle.refusing.specs.Refusals.{Call, mostBulks, mostMessages, holds, firstHolding}
-use Rattle.refusing.specs.Checking.{from, Measured, Few, Told}
+use Rattle.register.specs.Room.{Formed}
+use Rattle.index.specs.Index.{indexLength}
+use Rattle.index.specs.Ready as measured
+use Rattle.refusing.specs.Refusals.{Call, mostBulks, mostMessages, refusalNumber, lengthWrong, holdsGiven, holds, firstHolding}
+use Rattle.refusing.specs.Checking.{from, asked, IndexReady, Measured, Few, Told}
 use Rattle.refusing.specs.declared.Contents.{Contents}
 use Rattle.refusing.specs.declared.Checked.{Checked}
 use Rattle.refusing.specs.declared.Checked.the-variants.{Stopped, Fine}
 use Rattle.refusing.specs.declared.Refusal.{Refusal}
+use Rattle.refusing.specs.declared.Refusal.the-variants.{Sheet}
 
 -- ---- one condition, then the rest
 
-module _ (call : Call) (r : Refusal) where
-  pub stops : (later : List Refusal) → from r ≡ r ∷ later → holds r call ≡ true → Told r call (Stopped r)
+module _ (test : Refusal → Bool) (r : Refusal) where
+  pub stops : (later : List Refusal) → from r ≡ r ∷ later → test r ≡ true → firstHolding test (from r) ≡ refusalNumber r
   unfolding firstHolding
-  stops later e held = ap (λ (rs : List Refusal). firstHolding rs call) e ∙ (rw held)
+  stops later e held = ap (firstHolding test) e ∙ (rw held)
 
-  module _ (next : Refusal) (e : from r ≡ r ∷ from next) (clear : holds r call ≡ false) where
-    first-later : firstHolding (from r) call ≡ firstHolding (from next) call
+  module _ (next : Refusal) (e : from r ≡ r ∷ from next) (clear : test r ≡ false) (sheet : List ℕ) where
+    first-later : firstHolding test (from r) ≡ firstHolding test (from next)
     unfolding firstHolding
-    first-later = ap (λ (rs : List Refusal). firstHolding rs call) e ∙ (rw clear)
+    first-later = ap (firstHolding test) e ∙ (rw clear)
 
-    pub goes-on : (checked : Checked) → Told next call checked → Told r call checked
+    pub goes-on : (checked : Checked) → Told next test sheet checked → Told r test sheet checked
     goes-on (Stopped s) told = first-later ∙ told
     goes-on (Fine contents) told = (first-later ∙ told .0, told .1)
 
   -- the last one
-  pub passes : (contents : Contents) → from r ≡ r ∷ [] → holds r call ≡ false → Measured (call .sheet) contents → Told r call (Fine contents)
+  pub passes : (sheet : List ℕ) (contents : Contents) → from r ≡ r ∷ [] → test r ≡ false → Measured sheet contents → Told r test sheet (Fine contents)
   unfolding firstHolding
-  passes contents e clear measured = (ap (λ (rs : List Refusal). firstHolding rs call) e ∙ (rw clear), measured)
+  passes sheet contents e clear measured = (ap (firstHolding test) e ∙ (rw clear), measured)
+
+-- the conditions from the sheet's on do not look at an index
+pub asked-later : (indexed : Bool) (index : List ℕ) (call : Call) (sheet : List ℕ) (checked : Checked)
+    → Told Sheet (λ r. holds r call) sheet checked → Told Sheet (asked indexed index call) sheet checked
+unfolding firstHolding holdsGiven
+asked-later indexed index call sheet (Stopped s) told = told
+asked-later indexed index call sheet (Fine contents) told = told
+
+-- ---- an index, where one is lent
+
+pub length-wrong : (indexed : Bool) (index register : List ℕ) (n : ℕ) (t : Bool) → n ≡ indexLength register → (indexed && not (eqb (length index) n)) ≡ t
+    → (indexed && lengthWrong index register) ≡ t
+length-wrong indexed index register n t e h = rw (← e) h
+
+pub length-right : (indexed : Bool) (index register : List ℕ) → Formed register → (indexed && lengthWrong index register) ≡ false → IndexReady indexed register index
+length-right true index register formed e =
+    record { formed = formed; long = λ yes. eqb-true (length index) (indexLength register) (not-false _ e) }
+length-right false index register formed e = record { formed = formed; long = λ yes. absurd (false≢true yes) }
+
+pub index-measured : (indexed : Bool) (index register : List ℕ) → IndexReady indexed register index → indexed ≡ true → measured.Measured register index
+index-measured indexed index register ready lent = record { formed = ready .formed; long = ready .long lent }
 
 -- ---- tests
 

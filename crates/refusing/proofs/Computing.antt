@@ -1,11 +1,11 @@
 -- On an `unfolding` line: a case computes with refusals. Assumes nothing.
 use Rattle.routing.proofs.Computing.{lookupComputes}
 use Rattle.sheet.proofs.Computing.{sheetsCompute}
-use Rattle.register.proofs.Computing.{registerComputes}
+use Rattle.index.proofs.Computing.{indexComputes}
 use Rattle.positions.proofs.Computing.{positionsCompute}
 use Rattle.report.proofs.Computing.{linesCompute}
-use Rattle.refusing.specs.Refusals.{holds, firstHolding, refusal}
+use Rattle.refusing.specs.Refusals.{holdsGiven, firstHolding, refusal, indexedRefusal}
 
 unfoldable pub refusalsCompute : Unit {0}
-unfolding lookupComputes sheetsCompute registerComputes positionsCompute linesCompute holds firstHolding refusal
+unfolding lookupComputes sheetsCompute indexComputes positionsCompute linesCompute holdsGiven firstHolding refusal indexedRefusal
 refusalsCompute = tt

@@ -3,21 +3,23 @@
 use mathlib.Core.Path.{_≡_, refl, sym, ap, _∙_}
 use mathlib.Core.Bool.{Bool, true, false, cond, not, _&&_, and-eq-true-iff}
 use mathlib.Core.List.{List, [], _∷_}
-use Prim.Native.Nat.{_<_}
+use Prim.Native.Nat.{ℕ, _<_}
 use native.Mathlib.Omega.{arith}
 use lib.Dec.{eqb, ltb, lit<}
 use lib.ListN.{length}
 use borrow.Author.Tests.{ltb-true, not-true}
-use Rattle.refusing.specs.Refusals.{Call, refusalNumber, holds, refusals, firstHolding, refusal}
+use Rattle.refusing.specs.Refusals.{Call, refusalNumber, holds, holdsWith, refusals, firstHolding, refusal, indexedRefusal}
 use Rattle.refusing.specs.Checking.{fromIn, from}
 use Rattle.refusing.specs.declared.Refusal.{Refusal}
-use Rattle.refusing.specs.declared.Refusal.the-variants.{Date, Table, Positions, Register, Sheet, Size, Kind, Order, Room, Limit, Space}
+use Rattle.refusing.specs.declared.Refusal.the-variants.{Date, Table, Positions, Register, IndexLength, IndexContents, Sheet, Size, Kind, Order, Room, Limit, Space}
 
 pub in-order : (r : Refusal) → (later : List Refusal) × (from r ≡ r ∷ later)
 in-order Date = (_, refl)
 in-order Table = (_, refl)
 in-order Positions = (_, refl)
 in-order Register = (_, refl)
+in-order IndexLength = (_, refl)
+in-order IndexContents = (_, refl)
 in-order Sheet = (_, refl)
 in-order Size = (_, refl)
 in-order Kind = (_, refl)
@@ -75,30 +77,35 @@ number-tells r s e = ap first (sym (in-order r .1) ∙ same-from refusals r s e 
 
 -- ---- the answer's number
 
-first-named : (rs : List Refusal) (call : Call) → (firstHolding rs call ≡ 0 → ⊥) → (r : Refusal) × (refusalNumber r ≡ firstHolding rs call)
-unfolding firstHolding
-first-named [] call e = absurd (e refl)
-first-named (r ∷ rs) call e = by-test (first-named rs call) (holds r call) e
-  where
-    by-test : ((firstHolding rs call ≡ 0 → ⊥) → (x : Refusal) × (refusalNumber x ≡ firstHolding rs call))
-        → (t : Bool) → (cond t (refusalNumber r) (firstHolding rs call) ≡ 0 → ⊥) → (x : Refusal) × (refusalNumber x ≡ cond t (refusalNumber r) (firstHolding rs call))
-    by-test later true e = (r, refl)
-    by-test later false e = later e
+module _ (test : Refusal → Bool) where
+  first-named : (rs : List Refusal) → (firstHolding test rs ≡ 0 → ⊥) → (r : Refusal) × (refusalNumber r ≡ firstHolding test rs)
+  unfolding firstHolding
+  first-named [] e = absurd (e refl)
+  first-named (r ∷ rs) e = by-test (first-named rs) (test r) e
+    where
+      by-test : ((firstHolding test rs ≡ 0 → ⊥) → (x : Refusal) × (refusalNumber x ≡ firstHolding test rs))
+          → (t : Bool) → (cond t (refusalNumber r) (firstHolding test rs) ≡ 0 → ⊥) → (x : Refusal) × (refusalNumber x ≡ cond t (refusalNumber r) (firstHolding test rs))
+      by-test later true e = (r, refl)
+      by-test later false e = later e
 
-first-small : (rs : List Refusal) (call : Call) → firstHolding rs call < 99
-unfolding firstHolding
-first-small [] call = lit< tt
-first-small (r ∷ rs) call = by-test (holds r call) (first-small rs call)
-  where
-    by-test : (t : Bool) → firstHolding rs call < 99 → cond t (refusalNumber r) (firstHolding rs call) < 99
-    by-test true h = small-number r
-    by-test false h = h
+  first-small : (rs : List Refusal) → firstHolding test rs < 99
+  unfolding firstHolding
+  first-small [] = lit< tt
+  first-small (r ∷ rs) = by-test (test r) (first-small rs)
+    where
+      by-test : (t : Bool) → firstHolding test rs < 99 → cond t (refusalNumber r) (firstHolding test rs) < 99
+      by-test true h = small-number r
+      by-test false h = h
 
 -- other than 0 it is the number of a refusal
 pub refusal-named : (call : Call) → (refusal call ≡ 0 → ⊥) → (r : Refusal) × (refusalNumber r ≡ refusal call)
 unfolding refusal
-refusal-named call e = first-named refusals call e
+refusal-named call e = first-named (λ r. holds r call) refusals e
+
+pub indexed-named : (call : Call) (index : List ℕ) → (indexedRefusal call index ≡ 0 → ⊥) → (r : Refusal) × (refusalNumber r ≡ indexedRefusal call index)
+unfolding indexedRefusal
+indexed-named call index e = first-named (λ r. holdsWith index r call) refusals e
 
 pub refusal-small : (call : Call) → refusal call < 99
 unfolding refusal
-refusal-small call = first-small refusals call
+refusal-small call = first-small (λ r. holds r call) refusals

@@ -2,12 +2,15 @@
 -- Contract plumbing: the conditions and their order are defined in Refusals. Assumes nothing.
 use Prim.Native.Nat.{ℕ, _≤_}
 use mathlib.Core.Path.{_≡_}
-use mathlib.Core.Bool.{true, cond}
+use mathlib.Core.Bool.{Bool, true, cond, _&&_}
 use mathlib.Core.List.{List, [], _∷_}
 use lib.Dec.{eqb}
+use lib.ListN.{length}
 use Rattle.sheet.specs.Sheet.{bulkCount, messageCount, whole}
+use Rattle.register.specs.Room.{Formed}
+use Rattle.index.specs.Index.{indexLength}
 use Rattle.rules.specs.declared.Terms.{Terms}
-use Rattle.refusing.specs.Refusals.{Call, mostBulks, mostMessages, refusalNumber, refusals, firstHolding}
+use Rattle.refusing.specs.Refusals.{Call, mostBulks, mostMessages, refusalNumber, lengthWrong, contentsWrong, holdsGiven, refusals, firstHolding}
 use Rattle.refusing.specs.declared.Refusal.{Refusal}
 use Rattle.refusing.specs.declared.Contents.{Contents}
 use Rattle.refusing.specs.declared.Checked.{Checked}
@@ -37,7 +40,17 @@ pub record Few (sheet : List ℕ) (contents : Contents) : Type 0 where
   pub bulks : contents .bulks ≤ mostBulks
   pub messages : contents .messages ≤ mostMessages
 
+-- which conditions are asked: also those of an index, where one is lent
+abbrev pub asked : Bool → List ℕ → Call → Refusal → Bool
+asked indexed index call r =
+    holdsGiven (indexed && lengthWrong index (call .register)) (indexed && contentsWrong index (call .register)) r call
+
+-- where an index is lent it has the length that the register asks for
+pub record IndexReady (indexed : Bool) (register index : List ℕ) : Type 0 where
+  pub formed : Formed register
+  pub long : indexed ≡ true → length index ≡ indexLength register
+
 -- of the refusals from r on the first that holds, or that none does, with what the sheet holds
-abbrev pub Told : Refusal → Call → Checked → Type 0
-Told r call (Stopped s) = firstHolding (from r) call ≡ refusalNumber s
-Told r call (Fine contents) = (firstHolding (from r) call ≡ 0) × Measured (call .sheet) contents
+abbrev pub Told : Refusal → (Refusal → Bool) → List ℕ → Checked → Type 0
+Told r test sheet (Stopped s) = firstHolding test (from r) ≡ refusalNumber s
+Told r test sheet (Fine contents) = (firstHolding test (from r) ≡ 0) × Measured sheet contents

@@ -1,9 +1,13 @@
 // Whether a file is turned away. Each condition is asked by one function, which hands on to the next where it does not hold, so the
 // order of the functions is the order of the refusals. Nothing is written.
 ghost use mathlib.Core.Path.{_≡_};
-ghost use Rattle.refusing.specs.Refusals.{refusalNumber};
-ghost use Rattle.refusing.specs.Checking.{callOf, Measured, Few, Told};
-ghost use Rattle.refusing.specs.declared.Refusal.the-variants.{Date, Table, Positions, Register, Sheet, Size, Kind, Order, Room, Limit, Space};
+ghost use mathlib.Core.Bool.{_&&_, not};
+ghost use Rattle.wire.specs.Field.{same};
+ghost use Rattle.register.specs.Room.{Formed};
+ghost use Rattle.index.specs.Index.{indexOf};
+ghost use Rattle.refusing.specs.Refusals.{refusalNumber, holds};
+ghost use Rattle.refusing.specs.Checking.{callOf, asked, IndexReady, Measured, Few, Told};
+ghost use Rattle.refusing.specs.declared.Refusal.the-variants.{Date, Table, Positions, Register, IndexLength, IndexContents, Sheet, Size, Kind, Order, Room, Limit, Space};
 use rules::Terms;
 use sheet::Shape;
 
@@ -17,6 +21,8 @@ pub enum Refusal {
     Table,
     Positions,
     Register,
+    IndexLength,
+    IndexContents,
     Sheet,
     Size,
     Kind,
@@ -38,7 +44,7 @@ pub enum Checked {
     Fine(Contents),
 }
 
-// All conditions, in their order; the first asks whether the date is one.
+// All conditions, in their order, those of an index where one is lent; the first asks whether the date is one.
 pub fn check(
     terms: Terms,
     sheet: &[u8],
@@ -46,13 +52,24 @@ pub fn check(
     register: &[u8],
     positions: &[u8],
     report: &[u8],
+    indexed: bool,
+    index: &[u8],
 ) -> Checked
-    ensures { λ r. ⌜ Told Date (callOf terms (now (sheet .entry)) (now (table .entry)) (now (register .entry)) (now (positions .entry)) (now (report .entry))) r ⌝ }
+    ensures { λ r. ⌜ Told Date (asked indexed (now (index .entry)) (callOf terms (now (sheet .entry)) (now (table .entry)) (now (register .entry)) (now (positions .entry)) (now (report .entry)))) (now (sheet .entry)) r ⌝ }
 {
     if !calendar::is_date(terms.date) {
         return Checked::Stopped(Refusal::Date);
     }
-    from_table(terms, sheet, table, register, positions, report)
+    from_table(
+        terms,
+        sheet,
+        table,
+        register,
+        positions,
+        report,
+        indexed,
+        index,
+    )
 }
 
 // The table's form.
@@ -63,13 +80,24 @@ fn from_table(
     register: &[u8],
     positions: &[u8],
     report: &[u8],
+    indexed: bool,
+    index: &[u8],
 ) -> Checked
-    ensures { λ r. ⌜ Told Table (callOf terms (now (sheet .entry)) (now (table .entry)) (now (register .entry)) (now (positions .entry)) (now (report .entry))) r ⌝ }
+    ensures { λ r. ⌜ Told Table (asked indexed (now (index .entry)) (callOf terms (now (sheet .entry)) (now (table .entry)) (now (register .entry)) (now (positions .entry)) (now (report .entry)))) (now (sheet .entry)) r ⌝ }
 {
     if !routing::well_formed(table) {
         return Checked::Stopped(Refusal::Table);
     }
-    from_positions(terms, sheet, table, register, positions, report)
+    from_positions(
+        terms,
+        sheet,
+        table,
+        register,
+        positions,
+        report,
+        indexed,
+        index,
+    )
 }
 
 // A position for each row.
@@ -80,13 +108,24 @@ fn from_positions(
     register: &[u8],
     positions: &[u8],
     report: &[u8],
+    indexed: bool,
+    index: &[u8],
 ) -> Checked
-    ensures { λ r. ⌜ Told Positions (callOf terms (now (sheet .entry)) (now (table .entry)) (now (register .entry)) (now (positions .entry)) (now (report .entry))) r ⌝ }
+    ensures { λ r. ⌜ Told Positions (asked indexed (now (index .entry)) (callOf terms (now (sheet .entry)) (now (table .entry)) (now (register .entry)) (now (positions .entry)) (now (report .entry)))) (now (sheet .entry)) r ⌝ }
 {
     if !positions::fit(positions, routing::rows(table)) {
         return Checked::Stopped(Refusal::Positions);
     }
-    from_register(terms, sheet, table, register, positions, report)
+    from_register(
+        terms,
+        sheet,
+        table,
+        register,
+        positions,
+        report,
+        indexed,
+        index,
+    )
 }
 
 // The register's form.
@@ -97,11 +136,82 @@ fn from_register(
     register: &[u8],
     positions: &[u8],
     report: &[u8],
+    indexed: bool,
+    index: &[u8],
 ) -> Checked
-    ensures { λ r. ⌜ Told Register (callOf terms (now (sheet .entry)) (now (table .entry)) (now (register .entry)) (now (positions .entry)) (now (report .entry))) r ⌝ }
+    ensures { λ r. ⌜ Told Register (asked indexed (now (index .entry)) (callOf terms (now (sheet .entry)) (now (table .entry)) (now (register .entry)) (now (positions .entry)) (now (report .entry)))) (now (sheet .entry)) r ⌝ }
 {
     if !register::well_formed(register) {
         return Checked::Stopped(Refusal::Register);
+    }
+    from_index_length(
+        terms,
+        sheet,
+        table,
+        register,
+        positions,
+        report,
+        indexed,
+        index,
+    )
+}
+
+// An index, where one is lent, is as long as the register asks.
+fn from_index_length(
+    terms: Terms,
+    sheet: &[u8],
+    table: &[u8],
+    register: &[u8],
+    positions: &[u8],
+    report: &[u8],
+    indexed: bool,
+    index: &[u8],
+) -> Checked
+    requires { ⌜ Formed (now register) ⌝ }
+    ensures { λ r. ⌜ Told IndexLength (asked indexed (now (index .entry)) (callOf terms (now (sheet .entry)) (now (table .entry)) (now (register .entry)) (now (positions .entry)) (now (report .entry)))) (now (sheet .entry)) r ⌝ }
+{
+    if indexed & (index.len() != index::length_for(register)) {
+        return Checked::Stopped(Refusal::IndexLength);
+    }
+    from_index_contents(
+        terms,
+        sheet,
+        table,
+        register,
+        positions,
+        report,
+        indexed,
+        index,
+    )
+}
+
+// Whether an index that was lent is another than the register's.
+fn is_another(indexed: bool, register: &[u8], index: &[u8]) -> bool
+    requires { ⌜ IndexReady indexed (now register) (now index) ⌝ }
+    ensures { λ r. ⌜ r ≡ (indexed && not (same (now (index .entry)) (indexOf (now (register .entry))))) ⌝ }
+{
+    if indexed {
+        return !index::is_built(register, index);
+    }
+    false
+}
+
+// And it is the register's own.
+fn from_index_contents(
+    terms: Terms,
+    sheet: &[u8],
+    table: &[u8],
+    register: &[u8],
+    positions: &[u8],
+    report: &[u8],
+    indexed: bool,
+    index: &[u8],
+) -> Checked
+    requires { ⌜ IndexReady indexed (now register) (now index) ⌝ }
+    ensures { λ r. ⌜ Told IndexContents (asked indexed (now (index .entry)) (callOf terms (now (sheet .entry)) (now (table .entry)) (now (register .entry)) (now (positions .entry)) (now (report .entry)))) (now (sheet .entry)) r ⌝ }
+{
+    if is_another(indexed, register, index) {
+        return Checked::Stopped(Refusal::IndexContents);
     }
     from_sheet(terms, sheet, table, register, positions, report)
 }
@@ -115,7 +225,7 @@ fn from_sheet(
     positions: &[u8],
     report: &[u8],
 ) -> Checked
-    ensures { λ r. ⌜ Told Sheet (callOf terms (now (sheet .entry)) (now (table .entry)) (now (register .entry)) (now (positions .entry)) (now (report .entry))) r ⌝ }
+    ensures { λ r. ⌜ Told Sheet (λ x. holds x (callOf terms (now (sheet .entry)) (now (table .entry)) (now (register .entry)) (now (positions .entry)) (now (report .entry)))) (now (sheet .entry)) r ⌝ }
 {
     let shape = sheet::measure(sheet);
     match shape {
@@ -143,7 +253,7 @@ fn from_size(
     contents: Contents,
 ) -> Checked
     requires { ⌜ Measured (now sheet) contents ⌝ }
-    ensures { λ r. ⌜ Told Size (callOf terms (now (sheet .entry)) (now (table .entry)) (now (register .entry)) (now (positions .entry)) (now (report .entry))) r ⌝ }
+    ensures { λ r. ⌜ Told Size (λ x. holds x (callOf terms (now (sheet .entry)) (now (table .entry)) (now (register .entry)) (now (positions .entry)) (now (report .entry)))) (now (sheet .entry)) r ⌝ }
 {
     if (MOST_BULKS < contents.bulks) | (MOST_MESSAGES < contents.messages) {
         return Checked::Stopped(Refusal::Size);
@@ -162,7 +272,7 @@ fn from_kind(
     contents: Contents,
 ) -> Checked
     requires { ⌜ Few (now sheet) contents ⌝ }
-    ensures { λ r. ⌜ Told Kind (callOf terms (now (sheet .entry)) (now (table .entry)) (now (register .entry)) (now (positions .entry)) (now (report .entry))) r ⌝ }
+    ensures { λ r. ⌜ Told Kind (λ x. holds x (callOf terms (now (sheet .entry)) (now (table .entry)) (now (register .entry)) (now (positions .entry)) (now (report .entry)))) (now (sheet .entry)) r ⌝ }
 {
     if !sheet::kinds_known(sheet, contents.bulks) {
         return Checked::Stopped(Refusal::Kind);
@@ -181,7 +291,7 @@ fn from_order(
     contents: Contents,
 ) -> Checked
     requires { ⌜ Few (now sheet) contents ⌝ }
-    ensures { λ r. ⌜ Told Order (callOf terms (now (sheet .entry)) (now (table .entry)) (now (register .entry)) (now (positions .entry)) (now (report .entry))) r ⌝ }
+    ensures { λ r. ⌜ Told Order (λ x. holds x (callOf terms (now (sheet .entry)) (now (table .entry)) (now (register .entry)) (now (positions .entry)) (now (report .entry)))) (now (sheet .entry)) r ⌝ }
 {
     if sheet::kinds_mixed(sheet, contents.bulks) {
         return Checked::Stopped(Refusal::Order);
@@ -200,7 +310,7 @@ fn from_room(
     contents: Contents,
 ) -> Checked
     requires { ⌜ Few (now sheet) contents ⌝ }
-    ensures { λ r. ⌜ Told Room (callOf terms (now (sheet .entry)) (now (table .entry)) (now (register .entry)) (now (positions .entry)) (now (report .entry))) r ⌝ }
+    ensures { λ r. ⌜ Told Room (λ x. holds x (callOf terms (now (sheet .entry)) (now (table .entry)) (now (register .entry)) (now (positions .entry)) (now (report .entry)))) (now (sheet .entry)) r ⌝ }
 {
     if register::free(register) < contents.bulks + contents.messages {
         return Checked::Stopped(Refusal::Room);
@@ -219,7 +329,7 @@ fn from_limit(
     contents: Contents,
 ) -> Checked
     requires { ⌜ Few (now sheet) contents ⌝ }
-    ensures { λ r. ⌜ Told Limit (callOf terms (now (sheet .entry)) (now (table .entry)) (now (register .entry)) (now (positions .entry)) (now (report .entry))) r ⌝ }
+    ensures { λ r. ⌜ Told Limit (λ x. holds x (callOf terms (now (sheet .entry)) (now (table .entry)) (now (register .entry)) (now (positions .entry)) (now (report .entry)))) (now (sheet .entry)) r ⌝ }
 {
     if !positions::room_for_all(positions, contents.messages as u64 * rules::MOST_CENTS) {
         return Checked::Stopped(Refusal::Limit);
@@ -238,7 +348,7 @@ fn from_space(
     contents: Contents,
 ) -> Checked
     requires { ⌜ Few (now sheet) contents ⌝ }
-    ensures { λ r. ⌜ Told Space (callOf terms (now (sheet .entry)) (now (table .entry)) (now (register .entry)) (now (positions .entry)) (now (report .entry))) r ⌝ }
+    ensures { λ r. ⌜ Told Space (λ x. holds x (callOf terms (now (sheet .entry)) (now (table .entry)) (now (register .entry)) (now (positions .entry)) (now (report .entry)))) (now (sheet .entry)) r ⌝ }
 {
     if report.len() < report::space_for(contents.bulks, contents.messages) {
         return Checked::Stopped(Refusal::Space);
@@ -262,5 +372,7 @@ pub fn number_of(refusal: Refusal) -> u32
         Refusal::Room => 9,
         Refusal::Limit => 10,
         Refusal::Space => 11,
+        Refusal::IndexLength => 12,
+        Refusal::IndexContents => 13,
     }
 }

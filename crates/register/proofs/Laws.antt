@@ -18,7 +18,7 @@ use Rattle.wire.proofs.Texts.{same-itself, same-equal}
 use Rattle.wire.proofs.Scans.{first-here, first-more, first-ends}
 use Rattle.wire.proofs.Stores.{sets-append, part-stored, part-before, part-after}
 use Rattle.register.specs.Register.{senderWidth, tagPlace, keyWidth, key, entryWidth, entry, keyIn, mostEntries, usedWidth, used, room, free, entryPlace, entryAt, keyAt, wellFormed, inUse, entriesTo, entriesOf, keysOf, listed, search, isThere, stands, add}
-use Rattle.register.specs.Room.{Formed, FormTold, Parts}
+use Rattle.register.specs.Room.{Formed, Spare, FormTold, Parts}
 
 -- ---- the form
 
@@ -133,6 +133,16 @@ module _ (r k : List ℕ) where
     pub add-new : length k ≡ keyWidth → entryAt (add r k) (used r) ≡ entry k
     add-new wide =
         past-number (used r) ∙ part-stored r (entryPlace (used r)) entryWidth (entry k) (entry-width k wide) (omega (arith, f .whole))
+
+-- places left, after none and after one came into use
+pub spare-less : (r : List ℕ) (m n : ℕ) → n ≤ m → Spare r m → Spare r n
+spare-less r m n h s = record { formed = s .formed; left = (let l = s .left in omega arith) }
+
+pub spare-add : (r k : List ℕ) (n : ℕ) → Spare r (suc n) → Spare (add r k) n
+spare-add r k n s =
+    let enough = s .left in
+    let left : used r < room r = omega arith in
+    record { formed = add-formed r k (s .formed) left; left = rw (free-add r k (s .formed) left) (omega arith) }
 
 -- ---- the entries in use, and their keys
 

@@ -1,6 +1,6 @@
 // The register of used identifiers: its form, the search of a key, and adding one. It knows nothing of what an identifier means.
 ghost use mathlib.Core.Path.{_≡_};
-ghost use Rattle.register.specs.Register.{key, used, room, free, stands, add};
+ghost use Rattle.register.specs.Register.{key, used, room, inUse, free, stands, add};
 ghost use Rattle.register.specs.Room.{FormTold, Parts};
 
 // The tag of a message's key, and of a bulk's.
@@ -17,9 +17,9 @@ const TAG_PLACE: usize = SENDER_WIDTH + IDENTIFIER_WIDTH;
 pub const KEY_WIDTH: usize = TAG_PLACE + 1;
 
 // An entry is its key alone.
-const ENTRY_WIDTH: usize = KEY_WIDTH;
+pub const ENTRY_WIDTH: usize = KEY_WIDTH;
 
-const USED_WIDTH: usize = 4;
+pub const USED_WIDTH: usize = 4;
 
 const MOST_ENTRIES: usize = 60000;
 
@@ -31,10 +31,17 @@ pub fn used(register: &[u8]) -> u32
 }
 
 // The whole entries that it has room for.
-fn room(register: &[u8]) -> usize
+pub fn room(register: &[u8]) -> usize
     ensures { λ r. ⌜ r ≡ room (now (register .entry)) ⌝ }
 {
     (register.len() - wire::least(USED_WIDTH, register.len())) / ENTRY_WIDTH
+}
+
+// The entries in use: no more than there is room for.
+pub fn in_use(register: &[u8]) -> u32
+    ensures { λ r. ⌜ r ≡ inUse (now (register .entry)) ⌝ }
+{
+    wire::least(used(register) as usize, room(register)) as u32
 }
 
 // The places that are not in use.
@@ -73,7 +80,7 @@ pub fn key_of(sender: &[u8], identifier: &[u8], tag: u8) -> [u8; KEY_WIDTH]
 pub fn stands(register: &[u8], key: &[u8]) -> bool
     ensures { λ r. ⌜ r ≡ stands (now (register .entry)) (now (key .entry)) ⌝ }
 {
-    let n = wire::least(used(register) as usize, room(register));
+    let n = in_use(register) as usize;
     let mut k = 0;
     while k < n {
         let at = USED_WIDTH + ENTRY_WIDTH * k;

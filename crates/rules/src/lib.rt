@@ -2,9 +2,8 @@
 // identifiers is in the crate wording. Which bit shows it is said in the crate faults.
 ghost use mathlib.Core.Path.{_≡_};
 ghost use Rattle.routing.specs.Lookup.{optionOf};
-ghost use Rattle.register.specs.Room.{Parts};
 ghost use Rattle.tally.specs.Tally.{centsOf};
-ghost use Rattle.rules.specs.OfBulk.{marksWrong, noParticipant, dateWrong, repeated, empty, numberWrong, sumWrong};
+ghost use Rattle.rules.specs.OfBulk.{marksWrong, noParticipant, dateWrong, empty, numberWrong, sumWrong};
 ghost use Rattle.rules.specs.OfMessage.{receiverBadlyFormed, unreachable, amountWrong, tellsOriginal, reasonUnknown, nameUnknown, returnedAmountWrong};
 use routing::Found;
 use tally::Cents;
@@ -49,15 +48,6 @@ pub fn date_wrong(terms: Terms, date: u32) -> bool
     ensures { λ r. ⌜ r ≡ dateWrong terms date ⌝ }
 {
     date != terms.date
-}
-
-// Whether the sender has used the identifier before, for what the tag says: a bulk or a message.
-pub fn repeated(register: &[u8], sender: &[u8], identifier: &[u8], tag: u8) -> bool
-    requires { ⌜ Parts (now sender) (now identifier) ⌝ }
-    ensures { λ r. ⌜ r ≡ repeated (now (register .entry)) (now (sender .entry)) (now (identifier .entry)) tag ⌝ }
-{
-    let key = register::key_of(sender, identifier, tag);
-    register::stands(register, &key)
 }
 
 // Whether a bulk holds no message.

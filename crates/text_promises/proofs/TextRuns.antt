@@ -52,7 +52,7 @@ module _ (judge : Judge) (terms : Terms) (table : List ℕ) where
     next = stateAfter judge terms table file before
 
     abbrev left : Outcome
-    left = judge (callOn judge terms table file before)
+    left = judge (callOn terms table file before)
 
     abbrev ran : List Payment → List (List ℕ) → State → Ran
     ran ps ks after = record { accepted = ps; recorded = ks; after = after }

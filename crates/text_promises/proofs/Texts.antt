@@ -31,10 +31,10 @@ use Rattle.reading.proofs.InBytes.{sheet-bytes}
 use Rattle.reading.proofs.Made.{WasMade, was-made, front-left, kinds-known, untouched}
 use Rattle.rules.specs.declared.Terms.{Terms}
 use Rattle.report.specs.Line.{bulkLineWidth, messageLineWidth, firstLine, sectionsPlace, linesAt, afterLines}
-use Rattle.refusing.specs.Refusals.{Call, refusalNumber, holds, refusals, firstHolding, refusal}
+use Rattle.refusing.specs.Refusals.{Call, holdsGiven, holds, refusal}
 use Rattle.refusing.specs.declared.Refusal.{Refusal}
 use Rattle.refusing.specs.declared.Refusal.the-variants.{Sheet, Kind}
-use Rattle.refusing.proofs.Numbers.{some-number, number-tells}
+use Rattle.refusing.proofs.Clear.{never-first}
 use Rattle.promises.specs.Reading.{Judge, InBytes}
 use Rattle.promises.specs.Demands.{RefusesAsWritten, EveryLineTells, MessagesTell, BulksTell}
 use Rattle.promises.specs.Cut.{cutPlace, firstPart, secondPart, Enough, PartsMakeTheWhole, CutsAnywhere}
@@ -104,25 +104,12 @@ sheet-holds-documents text sheet how =
 
 -- ---- no refusal for its form or its kinds
 
-never : (r : Refusal) (rs : List Refusal) (call : Call) → holds r call ≡ false → firstHolding rs call ≡ refusalNumber r → ⊥
-unfolding firstHolding
-never r [] call fails e = eqb-false (refusalNumber r) 0 (some-number r) (sym e)
-never r (x ∷ xs) call fails e = by-test (never r xs call fails) (holds x call) refl e
-  where
-    by-test : (firstHolding xs call ≡ refusalNumber r → ⊥) → (t : Bool) → holds x call ≡ t → cond t (refusalNumber x) (firstHolding xs call) ≡ refusalNumber r → ⊥
-    by-test later true h e = false≢true (sym fails ∙ ap (λ (y : Refusal). holds y call) (sym (number-tells x r e)) ∙ h)
-    by-test later false h e = later e
-
-never-first : (r : Refusal) (call : Call) → holds r call ≡ false → refusal call ≡ refusalNumber r → ⊥
-unfolding refusal
-never-first r call fails e = never r refusals call fails e
-
 sheet-whole : (text : List ℕ) (call : Call) → ReadAs theReader text (call .sheet) → holds Sheet call ≡ false
-unfolding holds
+unfolding holdsGiven
 sheet-whole text call how = ap not (holds-meant text (call .sheet) how .whole)
 
 kinds-right : (text : List ℕ) (call : Call) → ReadAs theReader text (call .sheet) → holds Kind call ≡ false
-unfolding holds
+unfolding holdsGiven
 kinds-right text call how = ap not (ap kindsKnown (sym (headers-of (call .sheet))) ∙ known text (call .sheet) how)
 
 -- A judge that refuses as written never answers 5 or 7 on a sheet that was read.

@@ -36,7 +36,7 @@ module _ (reader : Reader) (judge : Judge) (terms : Terms) (table : List ℕ) wh
   unfoldable pub runTexts : List Sent → State → Ran
   runTexts [] before = record { accepted = []; recorded = []; after = before }
   runTexts (t ∷ ts) before =
-      let left = judge (callOn judge terms table (fileOf t) before) in
+      let left = judge (callOn terms table (fileOf t) before) in
       let rest = runTexts ts (stateAfter judge terms table (fileOf t) before) in
       cond (eqb (reader (t .text) (t .space) .number) 0)
       (record {

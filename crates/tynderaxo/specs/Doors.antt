@@ -2,8 +2,10 @@
 use mathlib.Core.List.{List}
 use Prim.Native.Nat.{ℕ}
 use Rattle.judging.specs.Outcome.{Outcome}
+use Rattle.judging.specs.Indexed.{IndexedOutcome}
 use Rattle.routing.specs.Lookup.{Routed}
 use Rattle.tynderaxo.specs.declared.TynderaxoAnswer.{TynderaxoAnswer}
+use Rattle.tynderaxo.specs.declared.TynderaxoIndexedAnswer.{TynderaxoIndexedAnswer}
 use Rattle.reading.specs.Reading as reading
 use Rattle.tynderaxo.specs.declared.TynderaxoRoute.{TynderaxoRoute}
 use Rattle.tynderaxo.specs.declared.TynderaxoReadAnswer.{TynderaxoReadAnswer}
@@ -12,6 +14,14 @@ use Rattle.tynderaxo.specs.declared.TynderaxoReadAnswer.{TynderaxoReadAn
 abbrev pub doorOutcome : TynderaxoAnswer → List ℕ → List ℕ → List ℕ → Outcome
 doorOutcome answer register positions report =
     record { number = answer .number; length = answer .length; register = register; positions = positions; report = report }
+
+abbrev pub indexedDoorOutcome : TynderaxoIndexedAnswer → List ℕ → List ℕ → List ℕ → List ℕ → IndexedOutcome
+indexedDoorOutcome answer register positions report index =
+    record {
+      outcome = record { number = answer .number; length = answer .length; register = register; positions = positions; report = report };
+      slots = answer .slots;
+      index = index;
+    }
 
 abbrev pub routedBy : TynderaxoRoute → Routed
 routedBy r = record { number = r .number; found = r .found; row = r .row; reachable = r .reachable }

@@ -1,12 +1,13 @@
-// The doors for C: the proved judge, lookup and reader under C's calling convention, and nothing else. A caller owes what
+// The doors for C: the proved judge, plain and with an index, lookup and reader under C's calling convention, and nothing else. A caller owes what
 // include/tynderaxo.h says: pointers that are valid for their lengths, and no written buffer over another.
 ghost use mathlib.Core.Path.{_≡_};
 ghost use Rattle.judging.specs.Outcome.{outcome};
+ghost use Rattle.judging.specs.Indexed.{indexedOutcome, indexBuilt};
 ghost use Rattle.refusing.specs.Checking.{callOf};
 ghost use Rattle.rules.specs.Terms.{dated};
 ghost use Rattle.routing.specs.Lookup.{lookup};
 ghost use Rattle.reading.specs.Reading.{reads};
-ghost use Rattle.tynderaxo.specs.Doors.{doorOutcome, routedBy, readOutcome, inNumbers};
+ghost use Rattle.tynderaxo.specs.Doors.{doorOutcome, indexedDoorOutcome, routedBy, readOutcome, inNumbers};
 use routing::Answer;
 use rules::Terms;
 
@@ -15,6 +16,14 @@ use rules::Terms;
 pub struct TynderaxoAnswer {
     pub number: u32,
     pub length: u64,
+}
+
+// The same, and the slots that the searches read: 0 with a refusal.
+#[repr(C)]
+pub struct TynderaxoIndexedAnswer {
+    pub number: u32,
+    pub length: u64,
+    pub slots: u64,
 }
 
 // A refusal's number, or 0 with whether a row was found, its place, and whether it is reachable.
@@ -50,6 +59,43 @@ pub extern "C" fn tynderaxo_judge(
         number: judging::number_of(answer),
         length: judging::length_of(answer) as u64,
     }
+}
+
+#[no_mangle]
+pub extern "C" fn tynderaxo_judge_indexed(
+    date: u32,
+    sheet: &[u8],
+    table: &[u8],
+    register: &mut [u8],
+    positions: &mut [u8],
+    report: &mut [u8],
+    index: &mut [u8],
+) -> TynderaxoIndexedAnswer
+    ensures { λ r. ⌜ indexedDoorOutcome r (now (register .exit)) (now (positions .exit)) (now (report .exit)) (now (index .exit)) ≡ indexedOutcome (callOf (dated date) (now (sheet .entry)) (now (table .entry)) (now (register .entry)) (now (positions .entry)) (now (report .entry))) (now (index .entry)) ⌝ }
+{
+    let told = judging::judge_indexed(
+        Terms { date },
+        sheet,
+        table,
+        register,
+        positions,
+        report,
+        index,
+    );
+    let answer = told.answer;
+    TynderaxoIndexedAnswer {
+        number: judging::number_of(answer),
+        length: judging::length_of(answer) as u64,
+        slots: told.slots,
+    }
+}
+
+// The number of a refusal, 4 or 12, or 0 for an index that was built.
+#[no_mangle]
+pub extern "C" fn tynderaxo_build_index(register: &[u8], index: &mut [u8]) -> u32
+    ensures { λ r. ⌜ record { number = r; index = now (index .exit) } ≡ indexBuilt (now (register .entry)) (now (index .entry)) ⌝ }
+{
+    judging::number_built(judging::build_index(register, index))
 }
 
 #[no_mangle]

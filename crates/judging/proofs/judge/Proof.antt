@@ -1,40 +1,18 @@
--- `judging::judge` meets its contract: the answer and every byte that it leaves are those of the outcome's definition.
--- Assumes nothing.
+-- `judging::judge` meets its contract: the one judgement without an index. Assumes nothing.
+use mathlib.Core.Path.{ap, _∙_}
 use Rattle.refusing.specs.Checking.{callOf}
-use Rattle.judging.proofs.Whole.{refused-told, bulks-ready, both-few, judged-told}
+use Rattle.judging.specs.Outcome.{Outcome}
+use Rattle.judging.specs.Indexed.{IndexedOutcome}
+use Rattle.judging.proofs.Whole.{plain-outcome}
 use borrow.Author.Needs.{needs}
 use Rattle.judging.proofs.judge.Statement.{statement}
 use Rattle.judging.proofs.judge.Tie as tie
 
-judge-bulks-requires : tie.Need-judge-bulks-requires
-judge-bulks-requires c κs =
-    let a = c .before .before .before .before .before .before .before .before .before .before .before .before .before .before .before .before .before .before .before .args in
-    let call = callOf (a .terms) (a .sheet .now) (a .table .now) (a .register .now) (a .positions .now) (a .report .now) in
-    let check = c .before .before .before .before .before .before .before .before .before .before .check in
-    let given = c .before .before .before .before .before .before .before .before .checked2 .given in
-    bulks-ready call (check .result) (given .0 .0) (given .1) (check .ensures) _ (c .before .before .before .before .before .put-count .kept .0)
-
-space-for-requires : tie.Need-space-for-requires
-space-for-requires c κs =
-    let a = c .before .before .before .before .before .before .before .before .before .before .before .before .before .before .before .before .before .before .before .before .before .before .before .before .before .before .args in
-    let call = callOf (a .terms) (a .sheet .now) (a .table .now) (a .register .now) (a .positions .now) (a .report .now) in
-    let check = c .before .before .before .before .before .before .before .before .before .before .before .before .before .before .before .before .before .check in
-    let given = c .before .before .before .before .before .before .before .before .before .before .before .before .before .before .before .checked2 .given in
-    both-few call (check .result) (given .0 .0) (given .1) (check .ensures)
-
 returns : tie.Need-returns
 returns c =
-    let a = c .before .before .before .before .before .before .before .before .before .before .before .before .args in
+    let a = c .before .before .before .before .before .before .before .before .before .before .before .before .before .before .before .before .before .args in
     let call = callOf (a .terms) (a .sheet .now) (a .table .now) (a .register .now) (a .positions .now) (a .report .now) in
-    refused-told call (c .before .before .before .check .result) _ (c .before .checked .given .1) (c .before .before .before .check .ensures)
-
-returns-2 : tie.Need-returns-2
-returns-2 c =
-    let a = c .before .before .before .before .before .before .before .before .before .before .before .before .before .before .before .before .before .before .before .before .before .before .before .before .before .before .before .args in
-    let call = callOf (a .terms) (a .sheet .now) (a .table .now) (a .register .now) (a .positions .now) (a .report .now) in
-    let check = c .before .before .before .before .before .before .before .before .before .before .before .before .before .before .before .before .before .before .check in
-    let given = c .before .before .before .before .before .before .before .before .before .before .before .before .before .before .before .before .checked2 .given in
-    judged-told call (check .result) (given .0 .0) (given .1) (check .ensures) _ _ _ _ (c .before .before .before .before .before .before .before .before .before .before .before .before .before .put-count .ensures) (c .before .before .before .before .before .before .before .judge-bulks .ensures) _ (c .space-for .ensures)
+    ap (λ (o : IndexedOutcome). o .outcome) (c .before .before .before .before .before .before .before .judge-by .ensures) ∙ plain-outcome call _
 
 pub judge-spec : {M : Type 1} → statement M
-judge-spec = tie.close (tie.spec (λ c κs. search needs) (λ c. search needs) (λ c. search needs) (λ c κs. search needs) judge-bulks-requires space-for-requires (λ c. search needs) (λ c. search needs) (λ c. search needs) returns (λ c. search needs) (λ c. search needs) (λ c. search needs) returns-2)
+judge-spec = tie.close (tie.spec (λ c. search needs) (λ c κs. search needs) (λ c. search needs) (λ c. search needs) (λ c. search needs) returns)

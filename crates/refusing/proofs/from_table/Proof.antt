@@ -2,7 +2,7 @@
 -- Assumes nothing.
 use mathlib.Core.Path.{refl}
 use mathlib.Core.Bool.{true, false}
-use Rattle.refusing.specs.Refusals.{holds}
+use Rattle.refusing.specs.Refusals.{holdsGiven}
 use Rattle.refusing.specs.declared.Refusal.the-variants.{Table, Positions}
 use Rattle.refusing.proofs.Checking.{stops, goes-on, not-good}
 use borrow.Author.Needs.{needs}
@@ -10,14 +10,14 @@ use Rattle.refusing.proofs.from_table.Statement.{statement}
 use Rattle.refusing.proofs.from_table.Tie as tie
 
 returns : tie.Need-returns
-unfolding holds
+unfolding holdsGiven
 returns c =
     stops _ Table _ refl (not-good _ true _ (c .before .well-formed .ensures .is) (c .if1 .taken))
 
 returns-2 : tie.Need-returns-2
-unfolding holds
+unfolding holdsGiven
 returns-2 c =
-    goes-on _ Table Positions refl (not-good _ false _ (c .before .before .well-formed .ensures .is) (c .before .if1 .left)) (c .from-positions .result) (c .from-positions .ensures)
+    goes-on _ Table Positions refl (not-good _ false _ (c .before .before .well-formed .ensures .is) (c .before .if1 .left)) _ (c .from-positions .result) (c .from-positions .ensures)
 
 pub from-table-spec : {M : Type 1} → statement M
 from-table-spec = tie.close (tie.spec (λ c κs. search needs) returns (λ c κs. search needs) returns-2)

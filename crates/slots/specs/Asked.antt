@@ -1,0 +1,28 @@
+-- What the functions on slots ask of their callers and tell them. Contract plumbing. Assumes nothing.
+use Prim.Native.Nat.{ℕ, suc, _+_, _*_, _≤_, _<_}
+use mathlib.Core.Path.{_≡_}
+use mathlib.Core.Bool.{cond}
+use mathlib.Core.List.{List, [], _∷_}
+use lib.Dec.{eqb}
+use lib.ListN.{length}
+use Rattle.slots.specs.Slots.{End}
+use Rattle.slots.specs.Stored.{slotWidth, slotCount}
+use Rattle.slots.specs.declared.Layout.{Layout}
+use Rattle.slots.specs.declared.Ended.{Ended}
+
+-- the keys of the first bound records lie in the bytes
+abbrev pub Within : Layout → List ℕ → ℕ → Type 0
+Within layout records bound = (k : ℕ) → k < bound → layout .first + layout .stride * k + layout .width ≤ length records
+
+-- so many records have slots enough, and no byte is left over
+pub record Sized (index : List ℕ) (m : ℕ) : Type 0 where
+  pub whole : length index ≡ slotWidth * slotCount index
+  pub enough : m ≤ slotCount index
+
+abbrev pub endOf : Ended → End
+endOf e = record { place = e .place; name = e .name; read = e .read }
+
+-- the slots that are not empty
+unfoldable pub taken : List ℕ → ℕ
+taken [] = 0
+taken (x ∷ xs) = cond (eqb x 0) (taken xs) (suc (taken xs))

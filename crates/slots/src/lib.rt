@@ -1,0 +1,236 @@
+// An index in lent bytes: open slots that name records by the texts of their keys. It knows how many bytes the records have and where their
+// keys stand, and nothing of what they mean.
+ghost use mathlib.Core.Path.{_≡_};
+ghost use Prim.Native.Nat.{_+_, _-_, _*_, _≤_, _<_};
+ghost use lib.ListN.{length, replicate};
+ghost use Rattle.wire.specs.Field.{same};
+ghost use Rattle.slots.specs.Slots.{startAt, names, passed, stopsAt};
+ghost use Rattle.slots.specs.Stored.{digits, slotWidth, mostSlots, slotCount, slotAt, slotsFrom, slotsOf, keyIn, searchedIn, added, builtIn};
+ghost use Rattle.slots.specs.Asked.{Within, Sized, endOf, taken};
+
+const SLOT_WIDTH: usize = 4;
+
+// So that four digits of a key and a remainder fit 64 bits.
+const MOST_SLOTS: usize = 2147483648;
+
+// Where the keys of records stand: one every `stride` bytes from `first` on, each of `width` bytes.
+pub struct Layout {
+    pub first: u32,
+    pub stride: u32,
+    pub width: u32,
+}
+
+// How a search ended: at which slot, what that slot holds, and how many slots were read.
+pub struct Ended {
+    pub place: u32,
+    pub name: u32,
+    pub read: u32,
+}
+
+fn wide(x: u8) -> u64
+    ensures { λ r. ⌜ (r ≡ x) × (r < 256) ⌝ }
+{
+    x as u64
+}
+
+fn slot_count(index: &[u8]) -> u32
+    ensures { λ r. ⌜ r ≡ slotCount (now (index .entry)) ⌝ }
+{
+    wire::least(index.len() / SLOT_WIDTH, MOST_SLOTS) as u32
+}
+
+// What a slot holds, in one step of the processor.
+fn slot_at(index: &[u8], at: u32) -> u32
+    requires { ⌜ slotWidth * at + slotWidth ≤ length (now index) ⌝ }
+    ensures { λ r. ⌜ r ≡ slotAt (now (index .entry)) at ⌝ }
+{
+    let i = SLOT_WIDTH * (at as usize);
+    (wide(index[i]) * 16777216
+        + wide(index[i + 1]) * 65536
+        + wide(index[i + 2]) * 256
+        + wide(index[i + 3])) as u32
+}
+
+fn key_in(layout: Layout, records: &[u8], k: u32) -> &[u8]
+    requires { ⌜ layout .first + layout .stride * k + layout .width ≤ length (now records) ⌝ }
+    ensures { λ r. ⌜ now r ≡ keyIn layout (now (records .entry)) k ⌝ }
+{
+    let at = layout.first as usize + layout.stride as usize * k as usize;
+    let end = at + layout.width as usize;
+    &records[at..end]
+}
+
+// The slot, of n, at which the search of a key starts: four digits to a remainder.
+fn start(key: &[u8], n: u32) -> u32
+    requires { ⌜ n ≤ mostSlots ⌝ }
+    ensures { λ r. ⌜ r ≡ startAt (digits (now (key .entry))) n ⌝ }
+{
+    if n == 0 {
+        return 0;
+    }
+    let m = n as u64;
+    let mut v: u64 = 0;
+    let mut i = 0;
+    while 4 <= key.len() - i {
+        let high = wide(key[i]) * 257 + wide(key[i + 1]);
+        let low = wide(key[i + 2]) * 257 + wide(key[i + 3]);
+        v = (v * 4362470401 + high * 66049 + low) % m;
+        i += 4;
+    }
+    while i < key.len() {
+        v = (v * 257 + wide(key[i])) % m;
+        i += 1;
+    }
+    v as u32
+}
+
+// Whether a slot's content names one of the first `bound` records.
+pub fn names(bound: u32, name: u32) -> bool
+    ensures { λ r. ⌜ r ≡ names bound name ⌝ }
+{
+    (name != 0) & (name <= bound)
+}
+
+fn stops_at(layout: Layout, records: &[u8], bound: u32, looked: &[u8], name: u32) -> bool
+    requires { ⌜ Within layout (now records) bound ⌝ }
+    ensures { λ r. ⌜ r ≡ stopsAt (keyIn layout (now (records .entry))) bound (now (looked .entry)) name ⌝ }
+{
+    if !names(bound, name) {
+        return true;
+    }
+    texts::same(key_in(layout, records, name - 1), looked)
+}
+
+// The first of the slots from one place up to another at which a search stops, or that other place.
+fn scan(
+    layout: Layout,
+    records: &[u8],
+    bound: u32,
+    looked: &[u8],
+    index: &[u8],
+    from: u32,
+    to: u32,
+) -> u32
+    requires { ⌜ (Within layout (now records) bound) × (to ≤ slotCount (now index)) ⌝ }
+    ensures { λ r. ⌜ r ≡ from + passed (stopsAt (keyIn layout (now (records .entry))) bound (now (looked .entry))) (slotsFrom (now (index .entry)) (to - from) from) ⌝ }
+{
+    let mut at = from;
+    while at < to {
+        if stops_at(layout, records, bound, looked, slot_at(index, at)) {
+            return at;
+        }
+        at += 1;
+    }
+    at
+}
+
+// The search of a key among the first `bound` records: from its start forward, then round the end.
+pub fn search(layout: Layout, records: &[u8], bound: u32, looked: &[u8], index: &[u8]) -> Ended
+    requires { ⌜ Within layout (now records) bound ⌝ }
+    ensures { λ r. ⌜ endOf r ≡ searchedIn layout (now (records .entry)) bound (now (looked .entry)) (now (index .entry)) ⌝ }
+{
+    let n = slot_count(index);
+    let s = start(looked, n);
+    let first = scan(layout, records, bound, looked, index, s, n);
+    if first < n {
+        return Ended {
+            place: first,
+            name: slot_at(index, first),
+            read: first - s + 1,
+        };
+    }
+    let second = scan(layout, records, bound, looked, index, 0, s);
+    if second < s {
+        return Ended {
+            place: second,
+            name: slot_at(index, second),
+            read: n - s + second + 1,
+        };
+    }
+    Ended {
+        place: n,
+        name: 0,
+        read: n,
+    }
+}
+
+// Names record k where the search of its key among those before it ended, unless that found one.
+pub fn add(index: &mut [u8], ended: Ended, k: u32)
+    ensures { λ _. ⌜ now (index .exit) ≡ added (endOf ended) k (now (index .entry)) ⌝ }
+{
+    if !names(k, ended.name) {
+        writing::put_number(
+            index,
+            SLOT_WIDTH * (ended.place as usize),
+            SLOT_WIDTH,
+            k as u64 + 1,
+        );
+    }
+}
+
+fn clear(index: &mut [u8])
+    ensures { λ _. ⌜ now (index .exit) ≡ replicate (length (now (index .entry))) 0 ⌝ }
+{
+    let mut i = 0;
+    while i < index.len() {
+        index[i] = 0;
+        i += 1;
+    }
+}
+
+// Writes the index of the first m records.
+pub fn build(layout: Layout, records: &[u8], m: u32, index: &mut [u8])
+    requires { ⌜ Within layout (now records) m ⌝ }
+    ensures { λ _. ⌜ now (index .exit) ≡ builtIn layout (now (records .entry)) (length (now (index .entry))) m ⌝ }
+{
+    clear(index);
+    let mut k = 0;
+    while k < m {
+        let ended = search(layout, records, k, key_in(layout, records, k), index);
+        add(index, ended, k);
+        k += 1;
+    }
+}
+
+// The slots that are not empty.
+fn taken(index: &[u8]) -> u32
+    ensures { λ r. ⌜ r ≡ taken (slotsOf (now (index .entry))) ⌝ }
+{
+    let n = slot_count(index);
+    let mut t = 0;
+    let mut i = 0;
+    while i < n {
+        if slot_at(index, i) != 0 {
+            t += 1;
+        }
+        i += 1;
+    }
+    t
+}
+
+// Whether an index is the one of the first m records, told in place: each key's search among the records before it ends at the slot that
+// names it, or at an equal one before it, and no other slot is taken.
+pub fn is_built(layout: Layout, records: &[u8], m: u32, index: &[u8]) -> bool
+    requires { ⌜ (Within layout (now records) m) × (Sized (now index) m) ⌝ }
+    ensures { λ r. ⌜ r ≡ same (now (index .entry)) (builtIn layout (now (records .entry)) (length (now (index .entry))) m) ⌝ }
+{
+    let all = taken(index);
+    // a slot too many, so that a foreign index cannot make every search long
+    if m < all {
+        return false;
+    }
+    let mut count = 0;
+    let mut k = 0;
+    while k < m {
+        let ended = search(layout, records, k, key_in(layout, records, k), index);
+        let name = ended.name;
+        if !names(k + 1, name) {
+            return false;
+        }
+        if name == k + 1 {
+            count += 1;
+        }
+        k += 1;
+    }
+    all == count
+}
