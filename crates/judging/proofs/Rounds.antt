@@ -9,7 +9,7 @@ use lib.ListN.{length, length-append}
 use lib.Seq.{sets}
 use Rattle.wire.proofs.Stores.{sets-then, sets-swap}
 use Rattle.routing.specs.Table.{rows}
-use Rattle.sheet.specs.Sheet.{headerWidth, widthAt, countAt, afterMessages, Bulk, bulkAt, bulksFrom, bulksOf, bulkCount, firstSection, endFrom, messagesFrom, messageCount}
+use Rattle.sheet.specs.Sheet.{headerWidth, widthAt, countAt, afterMessages, Bulk, bulkAt, bulksFrom, bulksOf, bulkCount, firstSection, endFrom, messagesFrom}
 use Rattle.sheet.specs.Reading.{HeaderRead, Inside, BulkTaken}
 use Rattle.sheet.specs.declared.BulkRead.{BulkRead}
 use Rattle.sheet.proofs.Bulks.{BulkWide, bulk-wide, bulks-wide}

@@ -117,13 +117,13 @@ module _ (call : Call) (clear : Clear call) (k : ℕ) (h : k ≤ bulkCount (call
           date = clear .date;
           table = clear .table;
           places = fit .places;
-          formed = fit .formed;
+          formed = fit .spare .formed;
           whole = ended;
           fewBulks = omega arith;
           fewMessages = omega arith;
           kinds = known;
           order = ordered;
-          room = fit .free;
+          room = fit .spare .left;
           limit = fit .room;
           space = enough;
         }

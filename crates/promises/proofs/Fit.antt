@@ -12,9 +12,9 @@ use borrow.Author.Tests.{eqb-true, leb-true, not-true, not-false}
 use Rattle.wire.specs.Field.{Bytes}
 use Rattle.routing.specs.Table.{rows}
 use Rattle.routing.proofs.Laws.{office-below, route-below, reachable-row, participates-row}
-use Rattle.register.specs.Register.{key, messageTag, bulkTag, used, room, free, stands, add}
-use Rattle.register.specs.Room.{Formed}
-use Rattle.register.proofs.Laws.{add-formed, free-add}
+use Rattle.register.specs.Register.{key, messageTag, bulkTag, stands, add}
+use Rattle.register.specs.Room.{Spare}
+use Rattle.register.proofs.Laws.{spare-less, spare-add}
 use Rattle.positions.specs.Positions.{positionWidth, HasRow, roomForAll, pays}
 use Rattle.positions.proofs.Laws.{pays-length, pays-bytes}
 use Rattle.positions.proofs.Moves.{room-less, pays-room}
@@ -69,8 +69,7 @@ module _ (terms : Terms) (table : List ℕ) where
   -- ---- room for so many entries and so many payments more
 
   pub record Fit (st : State) (entries payments : ℕ) : Type 0 where
-    pub formed : Formed (st .register)
-    pub free : entries ≤ free (st .register)
+    pub spare : Spare (st .register) entries
     pub places : length (st .positions) ≡ positionWidth * rows table
     pub bytes : Bytes (st .positions)
     pub room : roomForAll (st .positions) (payments * mostCents) ≡ true
@@ -78,8 +77,7 @@ module _ (terms : Terms) (table : List ℕ) where
   pub fit-less : (st : State) (e p e' p' : ℕ) → Fit st e p → e' ≤ e → p' ≤ p → Fit st e' p'
   fit-less st e p e' p' f he hp =
       record {
-        formed = f .formed;
-        free = (let h = f .free in omega arith);
+        spare = spare-less (st .register) e e' he (f .spare);
         places = f .places;
         bytes = f .bytes;
         room = room-less (st .positions) (p * mostCents) (p' * mostCents) (f .room) (omega arith);
@@ -88,15 +86,7 @@ module _ (terms : Terms) (table : List ℕ) where
   -- an entry added
   entry-fit : (st : State) (new : List ℕ) (e p : ℕ) → Fit st (suc e) p → Fit (record { register = add (st .register) new; positions = st .positions }) e p
   entry-fit st new e p f =
-      let enough = f .free in
-      let left : used (st .register) < room (st .register) = omega arith in
-      record {
-        formed = add-formed (st .register) new (f .formed) left;
-        free = rw (free-add (st .register) new (f .formed) left) (omega arith);
-        places = f .places;
-        bytes = f .bytes;
-        room = f .room;
-      }
+      record { spare = spare-add (st .register) new e (f .spare); places = f .places; bytes = f .bytes; room = f .room }
 
   pub has-row : (positions : List ℕ) (i : ℕ) → length positions ≡ positionWidth * rows table → i < rows table → HasRow positions i
   has-row positions i e h = omega arith
@@ -107,8 +97,7 @@ module _ (terms : Terms) (table : List ℕ) where
   pay-fit st s t c e p hs ht hc f =
       let positions = st .positions in
       record {
-        formed = f .formed;
-        free = f .free;
+        spare = f .spare;
         places = pays-length positions s t c ∙ f .places;
         bytes = pays-bytes positions s t c (f .bytes);
         room =
@@ -187,4 +176,4 @@ module _ (terms : Terms) (table : List ℕ) where
 
 pub clear-fit : (call : Call) → Clear call → Bytes (call .positions)
     → Fit (call .terms) (call .table) (record { register = call .register; positions = call .positions }) (bulkCount (call .sheet) + messageCount (call .sheet)) (messageCount (call .sheet))
-clear-fit call clear bytes = record { formed = clear .formed; free = clear .room; places = clear .places; bytes = bytes; room = clear .limit }
+clear-fit call clear bytes = record { spare = record { formed = clear .formed; left = clear .room }; places = clear .places; bytes = bytes; room = clear .limit }

@@ -3,38 +3,37 @@
 use mathlib.Core.Path.{_≡_, refl, sym, ap, ap₂, subst, _∙_}
 use mathlib.Core.Bool.{Bool, true, false, cond, false≢true}
 use mathlib.Core.List.{List, [], _∷_, _++_}
-use Prim.Native.Nat.{ℕ, _+_, _≤_}
+use Prim.Native.Nat.{ℕ, _+_}
 use native.Mathlib.Decide.{ℕ-discrete}
 use lib.Dec.{eqb}
 use lib.ListN.{length}
-use borrow.Author.Tests.{eqb-true, eq-eqb, ne-eqb}
+use borrow.Author.Tests.{eq-eqb, ne-eqb}
 use Rattle.wire.specs.Field.{Bytes, same}
 use Rattle.wire.proofs.Texts.{same-equal, same-itself}
 use Rattle.sheet.specs.Sheet.{bulksOf, bulkCount, messageCount, countMessages}
 use Rattle.register.specs.Register.{wellFormed}
-use Rattle.register.specs.Room.{Spare}
 use Rattle.index.specs.Index.{indexOf, indexLength}
-use Rattle.index.specs.Searches.{slotsReadBy, mostRead, AllFormed}
+use Rattle.index.specs.Searches.{AllFormed}
 use Rattle.index.proofs.Laws.{reads-most}
 use Rattle.rules.specs.declared.Terms.{Terms}
 use Rattle.refusing.specs.Refusals.{Call, refusalNumber, lengthWrong, holdsGiven, refusal, indexedRefusal}
 use Rattle.refusing.specs.declared.Refusal.the-variants.{Register, IndexLength, IndexContents}
 use Rattle.refusing.proofs.Clear.{clear-of, never-first, indexed-clear, index-passes, indexed-as-plain}
 use Rattle.messages.specs.Messages.{State}
-use Rattle.judging.specs.Outcome.{Outcome, turnedAway, judgement, outcome}
+use Rattle.judging.specs.Outcome.{Outcome, turnedAway, outcome}
 use Rattle.judging.specs.Indexed.{IndexedOutcome, IndexBuilt, searchesOf, indexedJudged, indexedAway, indexedOutcome, indexBuilt}
 use Rattle.judging.proofs.Answers.{outcome-judged, outcome-refused}
 use Rattle.judging.proofs.Entries.{searches-formed}
 use Rattle.judging.proofs.Widths.{bulk-number, message-number}
-use Rattle.promises.specs.Reading.{InBytes, accepted, recorded}
+use Rattle.promises.specs.Reading.{accepted, recorded}
 use Rattle.promises.specs.Demands.{LinesTell, Leaves}
-use Rattle.promises.specs.Cut.{firstCall, secondCall, PartsMakeTheWhole}
+use Rattle.promises.specs.Cut.{firstCall, secondCall}
 use Rattle.promises.specs.Runs.{File, Ran, callOn, stateAfter, run, RunHolds}
-use Rattle.promises.specs.Indexed.{IndexedUntouched, IndexedTells, IndexedDemanded, IndexedMeets, TellsAsPlain, IndexedPartsMakeTheWhole, IndexedCutsAnywhere, IndexedRan, indexedRun, IndexedRunsAsPromised, Builds, BuildsAsWritten, NeverRefused, BuildsForTheJudge, AllIndexed}
+use Rattle.promises.specs.Indexed.{IndexedMeets, TellsAsPlain, IndexedCutsAnywhere, indexedRun, IndexedRunsAsPromised, BuildsAsWritten, BuildsForTheJudge, AllIndexed}
 use Rattle.promises.proofs.Cutting.{cut-anywhere}
 use Rattle.promises.proofs.Leaving.{leaves-the-rest}
 use Rattle.promises.proofs.Running.{runs-as-promised}
-use Rattle.promises.proofs.Telling.{refuses-as-written, every-line-tells}
+use Rattle.promises.proofs.Telling.{every-line-tells}
 
 -- ---- what a call comes to by whether it is refused
 

@@ -56,14 +56,14 @@ module _ (terms : Terms) (table : List ℕ) where
   bulk-recorded st header e p wide f =
       let new = key (senderOf header) (bulkIdentifierOf header) bulkTag in
       let parts = own-key-parts header wide in
-      let enough = f .free in
+      let enough = f .spare .left in
       let left : used (st .register) < room (st .register) = omega arith in
       let tag = tag-read (senderOf header) (bulkIdentifierOf header) bulkTag parts in
       let same = tracked-none terms table st in
       record {
         fresh = same .fresh;
         recorded =
-            ap withMessageTag (keys-add (st .register) new (f .formed) left (key-length (senderOf header) (bulkIdentifierOf header) bulkTag parts))
+            ap withMessageTag (keys-add (st .register) new (f .spare .formed) left (key-length (senderOf header) (bulkIdentifierOf header) bulkTag parts))
             ∙ tag-append (keysOf (st .register)) (new ∷ [])
             ∙ ap (λ (l : List (List ℕ)). messageKeys (st .register) ++ l) (rw tag);
         positions = same .positions;
@@ -83,10 +83,10 @@ module _ (terms : Terms) (table : List ℕ) where
     unfolding withMessageTag
     accepted-recorded =
         let parts = key-parts header kind message wide wide' in
-        let enough = f .free in
+        let enough = f .spare .left in
         let left : used (st .register) < room (st .register) = omega arith in
         let tag = tag-read (senderOf header) (identifierOf message) messageTag parts in
-        ap withMessageTag (keys-add (st .register) new (f .formed) left (key-length (senderOf header) (identifierOf message) messageTag parts))
+        ap withMessageTag (keys-add (st .register) new (f .spare .formed) left (key-length (senderOf header) (identifierOf message) messageTag parts))
         ∙ tag-append (keysOf (st .register)) (new ∷ [])
         ∙ ap (λ (l : List (List ℕ)). messageKeys (st .register) ++ l) (rw tag)
 

@@ -1,7 +1,7 @@
 -- The demands over texts, proved of the reader's definition: what a judge promises over sheets it keeps over the texts that they were
 -- read from. Assumes nothing.
 use mathlib.Core.Path.{_≡_, refl, sym, ap, ap₂, subst, _∙_}
-use mathlib.Core.Bool.{Bool, true, false, cond, not, false≢true}
+use mathlib.Core.Bool.{Bool, true, false, not}
 use mathlib.Core.List.{List, [], _∷_, _++_, map}
 use Prim.Native.Nat.{ℕ, _+_, _-_, _*_, _≤_}
 use native.Mathlib.Nat.{zero-add}
@@ -9,7 +9,6 @@ use native.Mathlib.Decide.{ℕ-discrete}
 use native.Mathlib.Omega.{arith}
 use lib.ListN.{length, take, drop, length-append, length-map, take-append-drop}
 use lib.Seq.{sets-eq, length-sets, length-take-le, drop-at}
-use borrow.Author.Tests.{eqb-false}
 use Rattle.wire.specs.Field.{Bytes, part, bytesOf}
 use Rattle.sheet.specs.Sheet.{countWidth, headerWidth, kindOf, Bulk, bulkCount, bulksOf, firstSection, kindsKnown, whole}
 use Rattle.sheet.specs.Written.{sheetBytes}
@@ -31,8 +30,7 @@ use Rattle.reading.proofs.InBytes.{sheet-bytes}
 use Rattle.reading.proofs.Made.{WasMade, was-made, front-left, kinds-known, untouched}
 use Rattle.rules.specs.declared.Terms.{Terms}
 use Rattle.report.specs.Line.{bulkLineWidth, messageLineWidth, firstLine, sectionsPlace, linesAt, afterLines}
-use Rattle.refusing.specs.Refusals.{Call, holdsGiven, holds, refusal}
-use Rattle.refusing.specs.declared.Refusal.{Refusal}
+use Rattle.refusing.specs.Refusals.{Call, holdsGiven, holds}
 use Rattle.refusing.specs.declared.Refusal.the-variants.{Sheet, Kind}
 use Rattle.refusing.proofs.Clear.{never-first}
 use Rattle.promises.specs.Reading.{Judge, InBytes}

@@ -1,5 +1,4 @@
 -- `index::enter_anew` meets its contract: what a search and an addition tell, or the addition alone. Assumes nothing.
-use mathlib.Core.Path.{_≡_, refl}
 use native.Mathlib.Omega.{arith}
 use Rattle.index.proofs.Telling.{anew-by-index, anew-plain, ready-less}
 use borrow.Author.Needs.{needs}
@@ -7,7 +6,8 @@ use Rattle.index.proofs.enter_anew.Statement.{statement}
 use Rattle.index.proofs.enter_anew.Tie as tie
 
 seek-requires : tie.Need-seek-requires
-seek-requires c κs = let a = c .before .before .before .before .before .before .args in ready-less (a .indexed) (a .register .now) (a .index .now) 1 0 (omega arith) (c .before .before .before .before .before .before .pre .ready)
+seek-requires c κs = let start = c .before .before .before .before .before .before in
+    let a = start .args in ready-less (a .indexed) (a .register .now) (a .index .now) 1 0 (omega arith) (start .pre .ready)
 
 enter-requires : tie.Need-enter-requires
 enter-requires c κs = record { ready = c .before .before .before .before .before .before .before .before .before .pre .ready; wide = c .before .before .before .before .before .before .before .before .before .pre .wide; told = c .before .before .seek .ensures }

@@ -1,5 +1,4 @@
 -- `judging::build_index` meets its contract. Assumes nothing.
-use mathlib.Core.Path.{sym, _∙_}
 use Rattle.judging.proofs.Indices.{unformed-told, short-told, built-told, build-ready}
 use borrow.Author.Needs.{needs}
 use borrow.Author.Tests.{not-true, not-false}

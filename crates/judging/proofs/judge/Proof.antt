@@ -1,7 +1,6 @@
 -- `judging::judge` meets its contract: the one judgement without an index. Assumes nothing.
 use mathlib.Core.Path.{ap, _∙_}
 use Rattle.refusing.specs.Checking.{callOf}
-use Rattle.judging.specs.Outcome.{Outcome}
 use Rattle.judging.specs.Indexed.{IndexedOutcome}
 use Rattle.judging.proofs.Whole.{plain-outcome}
 use borrow.Author.Needs.{needs}

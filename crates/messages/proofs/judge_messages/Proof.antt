@@ -25,38 +25,42 @@ loop-holds c = messages-start _ _ _ _ _ _ _ _ _ _ _ _ _ (c .new .ensures) (c .be
 
 message-requires : tie.Need-message-requires Inv-loop μ-loop
 message-requires c κs =
-    let a = c .before .before .before .before .before .before .before .before .before .before .args in
+    let start = c .before .before .before .before .before .before .before .before .before .before in
+    let a = start .args in
     let l = c .before .loop in
-    message-within (a .terms) (a .table .now) (headerIn (a .sheet .now) (a .ruling .header)) (a .ruling .fallen) (a .indexed) (a .ruling .header .kind) (a .sheet .now) (a .section .at) (a .section .number) (stateOf (a .register .now) (a .positions .now)) (a .index .now) (a .out .now) (l .register) (l .index) (l .positions) (l .out) (totalsOf (l .tally)) (l .slots) (l .cursor .at) (l .j) (l .inv) (c .before .before .before .before .before .before .before .before .before .before .pre .1) (c .loop-test .taken)
+    message-within (a .terms) (a .table .now) (headerIn (a .sheet .now) (a .ruling .header)) (a .ruling .fallen) (a .indexed) (a .ruling .header .kind) (a .sheet .now) (a .section .at) (a .section .number) (stateOf (a .register .now) (a .positions .now)) (a .index .now) (a .out .now) (l .register) (l .index) (l .positions) (l .out) (totalsOf (l .tally)) (l .slots) (l .cursor .at) (l .j) (l .inv) (start .pre .1) (c .loop-test .taken)
 
 line-place-requires : tie.Need-line-place-requires Inv-loop μ-loop
 line-place-requires c κs = few-words _ _ (c .before .loop-test .taken) (c .before .before .before .before .before .before .before .before .before .before .before .pre .1 .few)
 
 judge-message-requires : tie.Need-judge-message-requires Inv-loop μ-loop
 judge-message-requires c κs =
-    let a = c .before .before .before .before .before .before .before .before .before .before .before .before .before .before .before .before .args in
+    let start = c .before .before .before .before .before .before .before .before .before .before .before .before .before .before .before .before in
+    let a = start .args in
     let l = c .before .before .before .before .before .before .before .loop in
     let low = c .before .before .before .before .before .before .loop-test .taken in (
-      ruling-kept (a .terms) (a .sheet .now) (a .table .now) (a .positions .now) (a .ruling) (c .before .before .before .before .before .before .before .before .before .before .before .before .before .before .before .before .pre .0) (l .positions) (l .inv .positionsWide),
+      ruling-kept (a .terms) (a .sheet .now) (a .table .now) (a .positions .now) (a .ruling) (start .pre .0) (l .positions) (l .inv .positionsWide),
       message-ready (a .ruling .header .kind) (a .sheet .now) (l .cursor .at) _ (l .out) _ (c .before .before .before .before .before .message .ensures)
-          (message-within (a .terms) (a .table .now) (headerIn (a .sheet .now) (a .ruling .header)) (a .ruling .fallen) (a .indexed) (a .ruling .header .kind) (a .sheet .now) (a .section .at) (a .section .number) (stateOf (a .register .now) (a .positions .now)) (a .index .now) (a .out .now) (l .register) (l .index) (l .positions) (l .out) (totalsOf (l .tally)) (l .slots) (l .cursor .at) (l .j) (l .inv) (c .before .before .before .before .before .before .before .before .before .before .before .before .before .before .before .before .pre .1) low)
-          (rw (c .before .before .before .before .line-place .ensures) (line-space (a .terms) (a .table .now) (headerIn (a .sheet .now) (a .ruling .header)) (a .ruling .fallen) (a .indexed) (a .ruling .header .kind) (a .sheet .now) (a .section .at) (a .section .number) (stateOf (a .register .now) (a .positions .now)) (a .index .now) (a .out .now) (l .register) (l .index) (l .positions) (l .out) (totalsOf (l .tally)) (l .slots) (l .cursor .at) (l .j) (l .inv) (c .before .before .before .before .before .before .before .before .before .before .before .before .before .before .before .before .pre .2) low)),
+          (message-within (a .terms) (a .table .now) (headerIn (a .sheet .now) (a .ruling .header)) (a .ruling .fallen) (a .indexed) (a .ruling .header .kind) (a .sheet .now) (a .section .at) (a .section .number) (stateOf (a .register .now) (a .positions .now)) (a .index .now) (a .out .now) (l .register) (l .index) (l .positions) (l .out) (totalsOf (l .tally)) (l .slots) (l .cursor .at) (l .j) (l .inv) (start .pre .1) low)
+          (rw (c .before .before .before .before .line-place .ensures) (line-space (a .terms) (a .table .now) (headerIn (a .sheet .now) (a .ruling .header)) (a .ruling .fallen) (a .indexed) (a .ruling .header .kind) (a .sheet .now) (a .section .at) (a .section .number) (stateOf (a .register .now) (a .positions .now)) (a .index .now) (a .out .now) (l .register) (l .index) (l .positions) (l .out) (totalsOf (l .tally)) (l .slots) (l .cursor .at) (l .j) (l .inv) (start .pre .2) low)),
       message-place (a .terms) (a .table .now) (headerIn (a .sheet .now) (a .ruling .header)) (a .ruling .fallen) (a .indexed) (a .ruling .header .kind) (a .sheet .now) (a .section .at) (a .section .number) (stateOf (a .register .now) (a .positions .now)) (a .index .now) (a .out .now) (l .register) (l .index) (l .positions) (l .out) (totalsOf (l .tally)) (l .slots) (l .cursor .at) (l .j) (l .inv) low,
     )
 
 count-message-requires : tie.Need-count-message-requires Inv-loop μ-loop
 count-message-requires c κs =
-    let a = c .before .before .before .before .before .before .before .before .before .before .before .before .before .before .before .before .before .before .before .before .before .before .before .before .before .args in
+    let start = c .before .before .before .before .before .before .before .before .before .before .before .before .before .before .before .before .before .before .before .before .before .before .before .before .before in
+    let a = start .args in
     let l = c .before .before .before .before .before .before .before .before .before .before .before .before .before .before .before .before .loop in
-    count-ready (a .terms) (a .table .now) (headerIn (a .sheet .now) (a .ruling .header)) (a .ruling .fallen) (a .indexed) (a .ruling .header .kind) (a .sheet .now) (a .section .at) (a .section .number) (stateOf (a .register .now) (a .positions .now)) (a .index .now) (a .out .now) (l .register) (l .index) (l .positions) (l .out) (totalsOf (l .tally)) (l .slots) (l .cursor .at) (l .j) (l .inv) (c .before .before .before .before .before .before .before .before .before .before .before .before .before .before .before .before .before .before .before .before .before .before .before .before .before .pre .1) (c .before .before .before .before .before .before .before .before .before .before .before .before .before .before .before .loop-test .taken)
+    count-ready (a .terms) (a .table .now) (headerIn (a .sheet .now) (a .ruling .header)) (a .ruling .fallen) (a .indexed) (a .ruling .header .kind) (a .sheet .now) (a .section .at) (a .section .number) (stateOf (a .register .now) (a .positions .now)) (a .index .now) (a .out .now) (l .register) (l .index) (l .positions) (l .out) (totalsOf (l .tally)) (l .slots) (l .cursor .at) (l .j) (l .inv) (start .pre .1) (c .before .before .before .before .before .before .before .before .before .before .before .before .before .before .before .loop-test .taken)
 
 add-slots : tie.Need-add-slots Inv-loop μ-loop
 add-slots c =
-    let a = c .before .before .before .before .before .before .before .before .before .before .before .before .before .before .before .before .before .before .before .before .before .before .before .before .before .before .before .args in
+    let start = c .before .before .before .before .before .before .before .before .before .before .before .before .before .before .before .before .before .before .before .before .before .before .before .before .before .before .before in
+    let a = start .args in
     let l = c .before .before .before .before .before .before .before .before .before .before .before .before .before .before .before .before .before .before .loop in
     let read = c .before .before .before .before .before .before .before .before .before .before .before .before .before .before .before .before .message .ensures in
     let judged = rw (read .place, read .kind, c .before .before .before .before .before .before .before .before .before .before .before .before .before .before .before .line-place .ensures) at (c .before .before .before .before .before .before .before .before .before .before .judge-message .ensures) in
-    record { fits = slots-room (a .terms) (a .table .now) (headerIn (a .sheet .now) (a .ruling .header)) (a .ruling .fallen) (a .indexed) (a .ruling .header .kind) (a .sheet .now) (a .section .at) (a .section .number) (stateOf (a .register .now) (a .positions .now)) (a .index .now) (a .out .now) (l .register) (l .index) (l .positions) (l .out) (totalsOf (l .tally)) (l .slots) (l .cursor .at) (l .j) (l .inv) (c .before .before .before .before .before .before .before .before .before .before .before .before .before .before .before .before .before .before .before .before .before .before .before .before .before .before .before .pre .1 .few) (c .before .before .before .before .before .before .before .before .before .before .before .before .before .before .before .before .before .loop-test .taken) _ (judged .slots) }
+    record { fits = slots-room (a .terms) (a .table .now) (headerIn (a .sheet .now) (a .ruling .header)) (a .ruling .fallen) (a .indexed) (a .ruling .header .kind) (a .sheet .now) (a .section .at) (a .section .number) (stateOf (a .register .now) (a .positions .now)) (a .index .now) (a .out .now) (l .register) (l .index) (l .positions) (l .out) (totalsOf (l .tally)) (l .slots) (l .cursor .at) (l .j) (l .inv) (start .pre .1 .few) (c .before .before .before .before .before .before .before .before .before .before .before .before .before .before .before .before .before .loop-test .taken) _ (judged .slots) }
 
 add-j : tie.Need-add-j Inv-loop μ-loop
 add-j c = record { fits = step-fits _ _ (c .before .before .before .before .before .before .before .before .before .before .before .before .before .before .before .before .before .before .loop-test .taken) (few-fits _ (c .before .before .before .before .before .before .before .before .before .before .before .before .before .before .before .before .before .before .before .before .before .before .before .before .before .before .before .before .pre .1 .few)) }
@@ -66,12 +70,13 @@ loop-less c = omega arith
 
 loop-again : tie.Need-loop-again Inv-loop μ-loop
 loop-again c =
-    let a = c .before .before .before .before .before .before .before .before .before .before .before .before .before .before .before .before .before .before .before .before .before .before .before .before .before .before .before .before .args in
+    let start = c .before .before .before .before .before .before .before .before .before .before .before .before .before .before .before .before .before .before .before .before .before .before .before .before .before .before .before .before in
+    let a = start .args in
     let l = c .before .before .before .before .before .before .before .before .before .before .before .before .before .before .before .before .before .before .before .loop in
     let read = c .before .before .before .before .before .before .before .before .before .before .before .before .before .before .before .before .before .message .ensures in
     let judged = c .before .before .before .before .before .before .before .before .before .before .before .judge-message in
     let word = amount-word (a .ruling .header .kind) (a .sheet .now) (l .cursor .at) _ (λ i. c .before .before .before .before .before .before .before .before .before .before .before .before .before .before .before .before .before .before .before .before .before .before .before .before .before .before .before .shared-slice-known .given i .fits) (read .amount) in
-    messages-turn (a .terms) (a .table .now) (headerIn (a .sheet .now) (a .ruling .header)) (a .ruling .fallen) (a .indexed) (a .ruling .header .kind) (a .sheet .now) (a .section .at) (a .section .number) (stateOf (a .register .now) (a .positions .now)) (a .index .now) (a .out .now) (l .register) (l .index) (l .positions) (l .out) (totalsOf (l .tally)) (l .slots) (l .cursor .at) (l .j) (l .inv) (c .before .before .before .before .before .before .before .before .before .before .before .before .before .before .before .before .before .before .before .before .before .before .before .before .before .before .before .before .pre .1) (c .before .before .before .before .before .before .before .before .before .before .before .before .before .before .before .before .before .before .loop-test .taken) _ _ _ _ _
+    messages-turn (a .terms) (a .table .now) (headerIn (a .sheet .now) (a .ruling .header)) (a .ruling .fallen) (a .indexed) (a .ruling .header .kind) (a .sheet .now) (a .section .at) (a .section .number) (stateOf (a .register .now) (a .positions .now)) (a .index .now) (a .out .now) (l .register) (l .index) (l .positions) (l .out) (totalsOf (l .tally)) (l .slots) (l .cursor .at) (l .j) (l .inv) (start .pre .1) (c .before .before .before .before .before .before .before .before .before .before .before .before .before .before .before .before .before .before .loop-test .taken) _ _ _ _ _
     (rw (read .place, read .kind, c .before .before .before .before .before .before .before .before .before .before .before .before .before .before .before .before .line-place .ensures) at (judged .ensures))
     (judged .kept .1 .1 .1 .1 .0) (judged .kept .1 .1 .1 .1 .1 .0) (judged .kept .1 .1 .1 .1 .1 .1 .0) (judged .kept .1 .1 .1 .1 .1 .1 .1 .0) _ (read .amount) word _ (c .before .before .count-message .ensures) _ refl _ (read .moved)
 

@@ -11,8 +11,9 @@ use Rattle.refusing.proofs.from_index_length.Tie as tie
 
 from-index-contents-requires : tie.Need-from-index-contents-requires
 from-index-contents-requires c κs =
-    let a = c .before .before .before .before .before .before .before .before .args in
-    length-right (a .indexed) (a .index .now) (a .register .now) (c .before .before .before .before .before .before .before .before .pre) (length-wrong (a .indexed) (a .index .now) (a .register .now) _ false (c .before .length-for .ensures) (c .if1 .left))
+    let start = c .before .before .before .before .before .before .before .before in
+    let a = start .args in
+    length-right (a .indexed) (a .index .now) (a .register .now) (start .pre) (length-wrong (a .indexed) (a .index .now) (a .register .now) _ false (c .before .length-for .ensures) (c .if1 .left))
 
 returns : tie.Need-returns
 unfolding holdsGiven

@@ -16,15 +16,17 @@ kinds-known-requires c κs = header-room _ _ (c .before .before .before .before 
 returns : tie.Need-returns
 unfolding holdsGiven
 returns c =
-    let a = c .before .before .before .before .before .before .before .args in
-    let m = c .before .before .before .before .before .before .before .pre .measured in
+    let start = c .before .before .before .before .before .before .before in
+    let a = start .args in
+    let m = start .pre .measured in
     stops _ Kind _ refl (not-good _ true _ (c .before .kinds-known .ensures ∙ (λ i. kindsKnown (headersOf (a .sheet .now) (m .bulkCount i)))) (c .if1 .taken))
 
 returns-2 : tie.Need-returns-2
 unfolding holdsGiven
 returns-2 c =
-    let a = c .before .before .before .before .before .before .before .before .args in
-    let m = c .before .before .before .before .before .before .before .before .pre .measured in
+    let start = c .before .before .before .before .before .before .before .before in
+    let a = start .args in
+    let m = start .pre .measured in
     goes-on _ Kind Order refl (not-good _ false _ (c .before .before .kinds-known .ensures ∙ (λ i. kindsKnown (headersOf (a .sheet .now) (m .bulkCount i)))) (c .before .if1 .left)) _ (c .from-order .result) (c .from-order .ensures)
 
 pub from-kind-spec : {M : Type 1} → statement M

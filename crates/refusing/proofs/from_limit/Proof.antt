@@ -15,15 +15,17 @@ use Rattle.refusing.proofs.from_limit.Tie as tie
 returns : tie.Need-returns
 unfolding holdsGiven
 returns c =
-    let a = c .before .before .before .before .before .before .before .args in
-    let m = c .before .before .before .before .before .before .before .pre .measured in
+    let start = c .before .before .before .before .before .before .before in
+    let a = start .args in
+    let m = start .pre .measured in
     stops _ Limit _ refl (not-good _ true _ (c .before .room-for-all .ensures ∙ (λ i. roomForAll (a .positions .now) (m .messageCount i * mostCents))) (c .if1 .taken))
 
 returns-2 : tie.Need-returns-2
 unfolding holdsGiven
 returns-2 c =
-    let a = c .before .before .before .before .before .before .before .before .args in
-    let m = c .before .before .before .before .before .before .before .before .pre .measured in
+    let start = c .before .before .before .before .before .before .before .before in
+    let a = start .args in
+    let m = start .pre .measured in
     goes-on _ Limit Space refl (not-good _ false _ (c .before .before .room-for-all .ensures ∙ (λ i. roomForAll (a .positions .now) (m .messageCount i * mostCents))) (c .before .if1 .left)) _ (c .from-space .result) (c .from-space .ensures)
 
 pub from-limit-spec : {M : Type 1} → statement M

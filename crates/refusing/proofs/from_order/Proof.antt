@@ -16,15 +16,17 @@ kinds-mixed-requires c κs = header-room _ _ (c .before .before .before .before 
 returns : tie.Need-returns
 unfolding holdsGiven
 returns c =
-    let a = c .before .before .before .before .before .before .before .args in
-    let m = c .before .before .before .before .before .before .before .pre .measured in
+    let start = c .before .before .before .before .before .before .before in
+    let a = start .args in
+    let m = start .pre .measured in
     stops _ Order _ refl (sym (c .before .kinds-mixed .ensures ∙ (λ i. mixed false (headersOf (a .sheet .now) (m .bulkCount i)))) ∙ c .if1 .taken)
 
 returns-2 : tie.Need-returns-2
 unfolding holdsGiven
 returns-2 c =
-    let a = c .before .before .before .before .before .before .before .before .args in
-    let m = c .before .before .before .before .before .before .before .before .pre .measured in
+    let start = c .before .before .before .before .before .before .before .before in
+    let a = start .args in
+    let m = start .pre .measured in
     goes-on _ Order Room refl (sym (c .before .before .kinds-mixed .ensures ∙ (λ i. mixed false (headersOf (a .sheet .now) (m .bulkCount i)))) ∙ c .before .if1 .left) _ (c .from-room .result) (c .from-room .ensures)
 
 pub from-order-spec : {M : Type 1} → statement M

@@ -18,8 +18,9 @@ returns c =
 returns-2 : tie.Need-returns-2
 unfolding holdsGiven
 returns-2 c =
-    let a = c .before .before .before .before .before .before .before .args in
-    let m = c .before .before .before .before .before .before .before .pre .measured in
+    let start = c .before .before .before .before .before .before .before in
+    let a = start .args in
+    let m = start .pre .measured in
     passes _ Space _ (a .contents) refl (le-ltb _ _ (rw (c .before .space-for .ensures, m .bulkCount, m .messageCount) at (c .if1 .left))) m
 
 pub from-space-spec : {M : Type 1} → statement M

@@ -1,15 +1,13 @@
 -- `refusing::is_another` meets its contract. Assumes nothing.
-use mathlib.Core.Path.{refl, sym, ap, _∙_}
-use mathlib.Core.Bool.{Bool, not, _&&_}
-use Rattle.wire.specs.Field.{same}
-use Rattle.index.specs.Index.{indexOf}
+use mathlib.Core.Path.{ap}
+use mathlib.Core.Bool.{not}
 use Rattle.refusing.proofs.Checking.{index-measured}
-use borrow.Author.Needs.{needs}
 use Rattle.refusing.proofs.is_another.Statement.{statement}
 use Rattle.refusing.proofs.is_another.Tie as tie
 
 is-built-requires : tie.Need-is-built-requires
-is-built-requires c κs = let a = c .before .before .before .args in index-measured (a .indexed) (a .index .now) (a .register .now) (c .before .before .before .pre) (c .if1 .taken)
+is-built-requires c κs = let start = c .before .before .before in
+    let a = start .args in index-measured (a .indexed) (a .index .now) (a .register .now) (start .pre) (c .if1 .taken)
 
 returns : tie.Need-returns
 returns c =

@@ -20,87 +20,99 @@ use Rattle.judging.proofs.bulks.judge_bulk.Tie as tie
 
 key-of-requires : tie.Need-key-of-requires
 key-of-requires c κs =
-    let a = c .before .before .before .before .before .before .before .before .args in
-    bulk-parts (a .terms) (a .sheet .now) (a .table .now) (a .positions .now) (a .header) (c .before .before .before .before .before .before .before .before .pre .0) _ _ (c .before .sender .ensures) (c .identifier .ensures)
+    let start = c .before .before .before .before .before .before .before .before in
+    let a = start .args in
+    bulk-parts (a .terms) (a .sheet .now) (a .table .now) (a .positions .now) (a .header) (start .pre .0) _ _ (c .before .sender .ensures) (c .identifier .ensures)
 
 seek-requires : tie.Need-seek-requires
 seek-requires c κs =
-    let a = c .before .before .before .before .before .before .before .before .before .before .before .before .args in
-    ready-for (a .indexed) (a .register .now) (a .index .now) (a .section .number) (c .before .before .before .before .before .before .before .before .before .before .before .before .pre .3) 0 (omega arith)
+    let start = c .before .before .before .before .before .before .before .before .before .before .before .before in
+    let a = start .args in
+    ready-for (a .indexed) (a .register .now) (a .index .now) (a .section .number) (start .pre .3) 0 (omega arith)
 
 bulk-faults-requires : tie.Need-bulk-faults-requires
 bulk-faults-requires c κs =
-    let a = c .before .before .before .before .before .before .before .before .before .before .before .before .before .before .before .args in
-    bulk-asked (a .terms) (a .sheet .now) (a .table .now) (a .positions .now) (a .header) (c .before .before .before .before .before .before .before .before .before .before .before .before .before .before .before .pre .0) _ (c .before .before .before .before .before .before .before .before .sender .ensures) (c .before .head-office-row .result) (c .before .head-office-row .ensures)
+    let start = c .before .before .before .before .before .before .before .before .before .before .before .before .before .before .before in
+    let a = start .args in
+    bulk-asked (a .terms) (a .sheet .now) (a .table .now) (a .positions .now) (a .header) (start .pre .0) _ (c .before .before .before .before .before .before .before .before .sender .ensures) (c .before .head-office-row .result) (c .before .head-office-row .ensures)
 
 lines-at-requires : tie.Need-lines-at-requires
 lines-at-requires c κs =
-    let a = c .before .before .before .before .before .before .before .before .before .before .before .before .before .before .before .before .before .before .before .before .args in
-    omega (arith, lent-within (a .report .now) (a .section .number) (a .places) (c .before .before .before .before .before .before .before .before .before .before .before .before .before .before .before .before .before .before .before .before .pre .2) (a .report .now) refl, c .before .before .before .before .before .before .before .before .before .before .before .before .before .before .before .before .before .before .before .before .good)
+    let start = c .before .before .before .before .before .before .before .before .before .before .before .before .before .before .before .before .before .before .before .before in
+    let a = start .args in
+    omega (arith, lent-within (a .report .now) (a .section .number) (a .places) (start .pre .2) (a .report .now) refl, start .good)
 
 sub-judge-messages : tie.Need-sub-judge-messages
 sub-judge-messages c =
-    let a = c .before .before .before .before .before .before .before .before .before .before .before .before .before .before .before .before .before .before .before .before .before .before .before .before .args in
+    let start = c .before .before .before .before .before .before .before .before .before .before .before .before .before .before .before .before .before .before .before .before .before .before .before .before in
+    let a = start .args in
     let counted = c .before .before .before .before .before .before .put-count in
-    rw (c .before .before .before .lines-at .ensures) (lent-within (a .report .now) (a .section .number) (a .places) (c .before .before .before .before .before .before .before .before .before .before .before .before .before .before .before .before .before .before .before .before .before .before .before .before .pre .2) (counted .last .0) (counted .kept .0))
+    rw (c .before .before .before .lines-at .ensures) (lent-within (a .report .now) (a .section .number) (a .places) (start .pre .2) (counted .last .0) (counted .kept .0))
 
 part-judge-messages-start : tie.Need-part-judge-messages-start
 part-judge-messages-start c =
-    let a = c .before .before .before .before .before .before .before .before .before .before .before .before .before .before .before .before .before .before .before .before .before .before .before .before .args in
+    let start = c .before .before .before .before .before .before .before .before .before .before .before .before .before .before .before .before .before .before .before .before .before .before .before .before in
+    let a = start .args in
     let counted = c .before .before .before .before .before .before .put-count in
-    rw (c .before .before .before .lines-at .ensures) (lent-within (a .report .now) (a .section .number) (a .places) (c .before .before .before .before .before .before .before .before .before .before .before .before .before .before .before .before .before .before .before .before .before .before .before .before .pre .2) (counted .last .0) (counted .kept .0))
+    rw (c .before .before .before .lines-at .ensures) (lent-within (a .report .now) (a .section .number) (a .places) (start .pre .2) (counted .last .0) (counted .kept .0))
 
 judge-messages-requires : tie.Need-judge-messages-requires
 judge-messages-requires c κs =
-    let a = c .before .before .before .before .before .before .before .before .before .before .before .before .before .before .before .before .before .before .before .before .before .before .before .before .before .args in
+    let start = c .before .before .before .before .before .before .before .before .before .before .before .before .before .before .before .before .before .before .before .before .before .before .before .before .before in
+    let a = start .args in
     let office = c .before .before .before .before .before .before .before .before .before .before .before .head-office-row in
     let counted = c .before .before .before .before .before .before .before .put-count in (
-      ruling-ready (a .terms) (a .sheet .now) (a .table .now) (a .positions .now) (a .header) (c .before .before .before .before .before .before .before .before .before .before .before .before .before .before .before .before .before .before .before .before .before .before .before .before .before .pre .0) _ (c .before .before .before .before .before .before .before .before .before .before .before .before .before .before .before .before .before .before .sender .ensures) (office .result) (office .ensures) _,
-      c .before .before .before .before .before .before .before .before .before .before .before .before .before .before .before .before .before .before .before .before .before .before .before .before .before .pre .1,
-      lent-space (a .report .now) (a .section .number) (a .places) (c .before .before .before .before .before .before .before .before .before .before .before .before .before .before .before .before .before .before .before .before .before .before .before .before .before .pre .2) (counted .last .0) _ (counted .kept .0) (c .before .before .before .before .lines-at .ensures),
-      ready-for (a .indexed) (a .register .now) (a .index .now) (a .section .number) (c .before .before .before .before .before .before .before .before .before .before .before .before .before .before .before .before .before .before .before .before .before .before .before .before .before .pre .3) (a .section .number) (omega arith),
+      ruling-ready (a .terms) (a .sheet .now) (a .table .now) (a .positions .now) (a .header) (start .pre .0) _ (c .before .before .before .before .before .before .before .before .before .before .before .before .before .before .before .before .before .before .sender .ensures) (office .result) (office .ensures) _,
+      start .pre .1,
+      lent-space (a .report .now) (a .section .number) (a .places) (start .pre .2) (counted .last .0) _ (counted .kept .0) (c .before .before .before .before .lines-at .ensures),
+      ready-for (a .indexed) (a .register .now) (a .index .now) (a .section .number) (start .pre .3) (a .section .number) (omega arith),
     )
 
 put-bulk-line-requires : tie.Need-put-bulk-line-requires
 put-bulk-line-requires c κs =
-    let a = c .before .before .before .before .before .before .before .before .before .before .before .before .before .before .before .before .before .before .before .before .before .before .before .before .before .before .before .before .before .before .before .before .before .before .before .before .before .args in
+    let start = c .before .before .before .before .before .before .before .before .before .before .before .before .before .before .before .before .before .before .before .before .before .before .before .before .before .before .before .before .before .before .before .before .before .before .before .before .before in
+    let a = start .args in
     let faults = c .before .before .before .before .before .before .before .before .before .before .before .before .before .before .before .before .before .before .before .before .before .bulk-faults in
     let counted = c .before .before .before .before .before .before .before .before .before .before .before .before .before .before .before .before .before .before .before .put-count in
     let lines = c .before .before .before .before .before .before .before .before .before .before .before .before .before .before .before .before .lines-at in
     let judged = c .before .before .before .before .before .before .before .before .before .before .before .judge-messages in (
-      line-within (a .report .now) (a .section .number) (a .places) (c .before .before .before .before .before .before .before .before .before .before .before .before .before .before .before .before .before .before .before .before .before .before .before .before .before .before .before .before .before .before .before .before .before .before .before .before .before .pre .2) (counted .last .0) _ _ (judgeMessages (a .terms) (a .table .now) (headerIn (a .sheet .now) (a .header)) (not (eqb (faults .result) 0)) (messagesOf (a .sheet .now) (a .header .kind) (a .section)) (stateOf (a .register .now) (a .positions .now)) .lines) (counted .kept .0) (middle-lent (counted .last .0) (lines .result) 0 (linesAt (a .places .section)) (judgeMessages (a .terms) (a .table .now) (headerIn (a .sheet .now) (a .header)) (not (eqb (faults .result) 0)) (messagesOf (a .sheet .now) (a .header .kind) (a .section)) (stateOf (a .register .now) (a .positions .now)) .lines) _ (place-there _ _ (lines .ensures)) (judged .ensures .lines)),
-      bulk-parts (a .terms) (a .sheet .now) (a .table .now) (a .positions .now) (a .header) (c .before .before .before .before .before .before .before .before .before .before .before .before .before .before .before .before .before .before .before .before .before .before .before .before .before .before .before .before .before .before .before .before .before .before .before .before .before .pre .0) _ _ (c .before .before .before .before .before .before .before .before .before .before .before .before .before .before .before .before .before .before .before .before .before .before .before .before .before .before .before .before .before .before .sender .ensures) (c .before .before .before .before .before .before .before .before .before .before .before .before .before .before .before .before .before .before .before .before .before .before .before .before .before .before .before .before .before .identifier .ensures) .identifierWide,
+      line-within (a .report .now) (a .section .number) (a .places) (start .pre .2) (counted .last .0) _ _ (judgeMessages (a .terms) (a .table .now) (headerIn (a .sheet .now) (a .header)) (not (eqb (faults .result) 0)) (messagesOf (a .sheet .now) (a .header .kind) (a .section)) (stateOf (a .register .now) (a .positions .now)) .lines) (counted .kept .0) (middle-lent (counted .last .0) (lines .result) 0 (linesAt (a .places .section)) (judgeMessages (a .terms) (a .table .now) (headerIn (a .sheet .now) (a .header)) (not (eqb (faults .result) 0)) (messagesOf (a .sheet .now) (a .header .kind) (a .section)) (stateOf (a .register .now) (a .positions .now)) .lines) _ (place-there _ _ (lines .ensures)) (judged .ensures .lines)),
+      bulk-parts (a .terms) (a .sheet .now) (a .table .now) (a .positions .now) (a .header) (start .pre .0) _ _ (c .before .before .before .before .before .before .before .before .before .before .before .before .before .before .before .before .before .before .before .before .before .before .before .before .before .before .before .before .before .before .sender .ensures) (c .before .before .before .before .before .before .before .before .before .before .before .before .before .before .before .before .before .before .before .before .before .before .before .before .before .before .before .before .before .identifier .ensures) .identifierWide,
     )
 
 slice-aggregate-record-bulk : tie.Need-slice-aggregate-record-bulk
 slice-aggregate-record-bulk c =
-    let a = c .before .before .before .before .before .before .before .before .before .before .before .before .before .before .before .before .before .before .before .before .before .before .before .before .before .before .before .before .before .before .before .before .before .before .before .before .before .before .before .before .before .before .before .args in
-    sym (key-wide (a .terms) (a .sheet .now) (a .table .now) (a .positions .now) (a .header) (c .before .before .before .before .before .before .before .before .before .before .before .before .before .before .before .before .before .before .before .before .before .before .before .before .before .before .before .before .before .before .before .before .before .before .before .before .before .before .before .before .before .before .before .pre .0) _ _ _ (c .before .before .before .before .before .before .before .before .before .before .before .before .before .before .before .before .before .before .before .before .before .before .before .before .before .before .before .before .before .before .before .before .before .before .before .before .sender .ensures) (c .before .before .before .before .before .before .before .before .before .before .before .before .before .before .before .before .before .before .before .before .before .before .before .before .before .before .before .before .before .before .before .before .before .before .before .identifier .ensures) (c .before .before .before .before .before .before .before .before .before .before .before .before .before .before .before .before .before .before .before .before .before .before .before .before .before .before .before .before .before .before .before .before .before .before .key-of .ensures))
+    let start = c .before .before .before .before .before .before .before .before .before .before .before .before .before .before .before .before .before .before .before .before .before .before .before .before .before .before .before .before .before .before .before .before .before .before .before .before .before .before .before .before .before .before .before in
+    let a = start .args in
+    sym (key-wide (a .terms) (a .sheet .now) (a .table .now) (a .positions .now) (a .header) (start .pre .0) _ _ _ (c .before .before .before .before .before .before .before .before .before .before .before .before .before .before .before .before .before .before .before .before .before .before .before .before .before .before .before .before .before .before .before .before .before .before .before .before .sender .ensures) (c .before .before .before .before .before .before .before .before .before .before .before .before .before .before .before .before .before .before .before .before .before .before .before .before .before .before .before .before .before .before .before .before .before .before .before .identifier .ensures) (c .before .before .before .before .before .before .before .before .before .before .before .before .before .before .before .before .before .before .before .before .before .before .before .before .before .before .before .before .before .before .before .before .before .before .key-of .ensures))
 
 record-bulk-requires : tie.Need-record-bulk-requires
 record-bulk-requires c κs =
-    let a = c .before .before .before .before .before .before .before .before .before .before .before .before .before .before .before .before .before .before .before .before .before .before .before .before .before .before .before .before .before .before .before .before .before .before .before .before .before .before .before .before .before .before .before .args in
+    let start = c .before .before .before .before .before .before .before .before .before .before .before .before .before .before .before .before .before .before .before .before .before .before .before .before .before .before .before .before .before .before .before .before .before .before .before .before .before .before .before .before .before .before .before in
+    let a = start .args in
     let judged = c .before .before .before .before .before .before .before .before .before .before .before .before .before .before .before .before .before .judge-messages in
     record {
-      ready = ready-after (a .indexed) (a .register .now) (a .index .now) (a .section .number) (c .before .before .before .before .before .before .before .before .before .before .before .before .before .before .before .before .before .before .before .before .before .before .before .before .before .before .before .before .before .before .before .before .before .before .before .before .before .before .before .before .before .before .before .pre .3) (a .terms) (a .table .now) _ _ _ (a .positions .now) _ _ _ _ _ (judged .result) (records-length (messageWidth (a .header .kind)) (a .sheet .now) (a .section .number) (a .section .at)) (judged .ensures);
-      wide = key-wide (a .terms) (a .sheet .now) (a .table .now) (a .positions .now) (a .header) (c .before .before .before .before .before .before .before .before .before .before .before .before .before .before .before .before .before .before .before .before .before .before .before .before .before .before .before .before .before .before .before .before .before .before .before .before .before .before .before .before .before .before .before .pre .0) _ _ _ (c .before .before .before .before .before .before .before .before .before .before .before .before .before .before .before .before .before .before .before .before .before .before .before .before .before .before .before .before .before .before .before .before .before .before .before .before .sender .ensures) (c .before .before .before .before .before .before .before .before .before .before .before .before .before .before .before .before .before .before .before .before .before .before .before .before .before .before .before .before .before .before .before .before .before .before .before .identifier .ensures) (c .before .before .before .before .before .before .before .before .before .before .before .before .before .before .before .before .before .before .before .before .before .before .before .before .before .before .before .before .before .before .before .before .before .before .key-of .ensures);
+      ready = ready-after (a .indexed) (a .register .now) (a .index .now) (a .section .number) (start .pre .3) (a .terms) (a .table .now) _ _ _ (a .positions .now) _ _ _ _ _ (judged .result) (records-length (messageWidth (a .header .kind)) (a .sheet .now) (a .section .number) (a .section .at)) (judged .ensures);
+      wide = key-wide (a .terms) (a .sheet .now) (a .table .now) (a .positions .now) (a .header) (start .pre .0) _ _ _ (c .before .before .before .before .before .before .before .before .before .before .before .before .before .before .before .before .before .before .before .before .before .before .before .before .before .before .before .before .before .before .before .before .before .before .before .before .sender .ensures) (c .before .before .before .before .before .before .before .before .before .before .before .before .before .before .before .before .before .before .before .before .before .before .before .before .before .before .before .before .before .before .before .before .before .before .before .identifier .ensures) (c .before .before .before .before .before .before .before .before .before .before .before .before .before .before .before .before .before .before .before .before .before .before .before .before .before .before .before .before .before .before .before .before .before .before .key-of .ensures);
     }
 
 add-result : tie.Need-add-result
 add-result c =
-    let a = c .before .before .before .before .before .before .before .before .before .before .before .before .before .before .before .before .before .before .before .before .before .before .before .before .before .before .before .before .before .before .before .before .before .before .before .before .before .before .before .before .before .before .before .before .before .before .before .before .before .before .before .args in
+    let start = c .before .before .before .before .before .before .before .before .before .before .before .before .before .before .before .before .before .before .before .before .before .before .before .before .before .before .before .before .before .before .before .before .before .before .before .before .before .before .before .before .before .before .before .before .before .before .before .before .before .before .before in
+    let a = start .args in
     let all = read-fits (a .terms) (a .table .now) (a .sheet .now) (a .indexed) (a .header) (a .section) (stateOf (a .register .now) (a .positions .now)) (a .index .now) (a .report .now) (a .places)
     _ _ _ (c .before .before .before .before .before .before .before .before .before .before .before .before .before .before .before .before .before .before .before .before .before .before .before .before .before .before .before .before .before .before .before .before .before .before .before .before .before .before .before .before .before .before .before .before .sender .ensures) (c .before .before .before .before .before .before .before .before .before .before .before .before .before .before .before .before .before .before .before .before .before .before .before .before .before .before .before .before .before .before .before .before .before .before .before .before .before .before .before .before .before .before .before .identifier .ensures) (c .before .before .before .before .before .before .before .before .before .before .before .before .before .before .before .before .before .before .before .before .before .before .before .before .before .before .before .before .before .before .before .before .before .before .before .before .before .before .before .before .before .before .key-of .ensures) (c .before .before .before .before .before .before .before .before .before .before .before .before .before .before .before .before .before .before .before .before .before .before .before .before .before .before .before .before .before .before .before .before .before .before .before .before .before .before .seek .result) (c .before .before .before .before .before .before .before .before .before .before .before .before .before .before .before .before .before .before .before .before .before .before .before .before .before .before .before .before .before .before .before .before .before .before .before .before .before .before .seek .ensures) _ (centsOf (c .before .before .before .before .before .before .before .before .before .before .before .before .before .before .before .before .before .before .before .before .before .before .before .before .before .before .before .before .before .before .before .before .before .before .before .before .sum-of .result)) (c .before .before .before .before .before .before .before .before .before .before .before .before .before .before .before .before .before .before .before .before .before .before .before .before .before .before .before .before .before .before .before .before .before .before .before .before .sum-of .ensures) (c .before .before .before .before .before .before .before .before .before .before .before .before .before .before .before .before .before .before .before .before .before .before .before .before .before .before .before .before .before .before .before .before .before .before .before .bulk-faults .ensures)
-    (c .before .before .before .before .before .before .before .before .before .before .before .before .before .before .before .before .before .before .before .before .before .before .before .before .before .judge-messages .result) _ _ _ _ _ (c .before .before .before .before .before .before .before .before .before .before .before .before .before .before .before .before .before .before .before .before .before .before .before .before .before .judge-messages .ensures) _ _ _ (c .before .before .before .before .before .before .before .record-bulk .ensures) (c .before .before .before .before .before .before .before .before .before .before .before .before .before .before .before .before .before .before .before .before .before .before .before .before .before .before .before .before .before .before .before .before .before .before .before .before .before .before .before .before .before .before .before .before .before .before .before .before .before .before .before .pre .1 .few) in
+    (c .before .before .before .before .before .before .before .before .before .before .before .before .before .before .before .before .before .before .before .before .before .before .before .before .before .judge-messages .result) _ _ _ _ _ (c .before .before .before .before .before .before .before .before .before .before .before .before .before .before .before .before .before .before .before .before .before .before .before .before .before .judge-messages .ensures) _ _ _ (c .before .before .before .before .before .before .before .record-bulk .ensures) (start .pre .1 .few) in
     record { fits = omega (arith, all) }
 
 add-result-2 : tie.Need-add-result-2
 add-result-2 c =
-    let a = c .before .before .before .before .before .before .before .before .before .before .before .before .before .before .before .before .before .before .before .before .before .before .before .before .before .before .before .before .before .before .before .before .before .before .before .before .before .before .before .before .before .before .before .before .before .before .before .before .before .before .before .args in
+    let start = c .before .before .before .before .before .before .before .before .before .before .before .before .before .before .before .before .before .before .before .before .before .before .before .before .before .before .before .before .before .before .before .before .before .before .before .before .before .before .before .before .before .before .before .before .before .before .before .before .before .before .before in
+    let a = start .args in
     record {
       fits = read-fits (a .terms) (a .table .now) (a .sheet .now) (a .indexed) (a .header) (a .section) (stateOf (a .register .now) (a .positions .now)) (a .index .now) (a .report .now) (a .places)
           _ _ _ (c .before .before .before .before .before .before .before .before .before .before .before .before .before .before .before .before .before .before .before .before .before .before .before .before .before .before .before .before .before .before .before .before .before .before .before .before .before .before .before .before .before .before .before .before .sender .ensures) (c .before .before .before .before .before .before .before .before .before .before .before .before .before .before .before .before .before .before .before .before .before .before .before .before .before .before .before .before .before .before .before .before .before .before .before .before .before .before .before .before .before .before .before .identifier .ensures) (c .before .before .before .before .before .before .before .before .before .before .before .before .before .before .before .before .before .before .before .before .before .before .before .before .before .before .before .before .before .before .before .before .before .before .before .before .before .before .before .before .before .before .key-of .ensures) (c .before .before .before .before .before .before .before .before .before .before .before .before .before .before .before .before .before .before .before .before .before .before .before .before .before .before .before .before .before .before .before .before .before .before .before .before .before .before .seek .result) (c .before .before .before .before .before .before .before .before .before .before .before .before .before .before .before .before .before .before .before .before .before .before .before .before .before .before .before .before .before .before .before .before .before .before .before .before .before .before .seek .ensures) _ (centsOf (c .before .before .before .before .before .before .before .before .before .before .before .before .before .before .before .before .before .before .before .before .before .before .before .before .before .before .before .before .before .before .before .before .before .before .before .before .sum-of .result)) (c .before .before .before .before .before .before .before .before .before .before .before .before .before .before .before .before .before .before .before .before .before .before .before .before .before .before .before .before .before .before .before .before .before .before .before .before .sum-of .ensures) (c .before .before .before .before .before .before .before .before .before .before .before .before .before .before .before .before .before .before .before .before .before .before .before .before .before .before .before .before .before .before .before .before .before .before .before .bulk-faults .ensures)
-          (c .before .before .before .before .before .before .before .before .before .before .before .before .before .before .before .before .before .before .before .before .before .before .before .before .before .judge-messages .result) _ _ _ _ _ (c .before .before .before .before .before .before .before .before .before .before .before .before .before .before .before .before .before .before .before .before .before .before .before .before .before .judge-messages .ensures) _ _ _ (c .before .before .before .before .before .before .before .record-bulk .ensures) (c .before .before .before .before .before .before .before .before .before .before .before .before .before .before .before .before .before .before .before .before .before .before .before .before .before .before .before .before .before .before .before .before .before .before .before .before .before .before .before .before .before .before .before .before .before .before .before .before .before .before .before .pre .1 .few);
+          (c .before .before .before .before .before .before .before .before .before .before .before .before .before .before .before .before .before .before .before .before .before .before .before .before .before .judge-messages .result) _ _ _ _ _ (c .before .before .before .before .before .before .before .before .before .before .before .before .before .before .before .before .before .before .before .before .before .before .before .before .before .judge-messages .ensures) _ _ _ (c .before .before .before .before .before .before .before .record-bulk .ensures) (start .pre .1 .few);
     }
 
 returns : tie.Need-returns

@@ -20,10 +20,11 @@ first-requires c κs = sections-within _ _ _ _ _ (c .before .before .before .bef
 
 loop-holds : tie.Need-loop-holds Inv-loop μ-loop
 loop-holds c =
-    let a = c .before .before .before .before .before .before .before .before .before .args in
+    let start = c .before .before .before .before .before .before .before .before .before in
+    let a = start .args in
     let walk = c .before .before .start .ensures in
     let places = c .first .ensures in
-    bulks-start (a .terms) (a .table .now) (a .sheet .now) (a .indexed) (a .contents .bulks) (stateOf (a .register .now) (a .positions .now)) (a .index .now) (a .report .now) (a .contents) refl (c .before .before .before .before .before .before .before .before .before .pre .0) (c .before .before .before .before .before .before .before .before .before .pre .1) _ _ (walk .heads) (walk .bodies) _ _ (places .lineIs) (places .sectionIs)
+    bulks-start (a .terms) (a .table .now) (a .sheet .now) (a .indexed) (a .contents .bulks) (stateOf (a .register .now) (a .positions .now)) (a .index .now) (a .report .now) (a .contents) refl (start .pre .0) (start .pre .1) _ _ (walk .heads) (walk .bodies) _ _ (places .lineIs) (places .sectionIs)
 
 bulk-requires : tie.Need-bulk-requires Inv-loop μ-loop
 bulk-requires c κs =
@@ -33,11 +34,12 @@ bulk-requires c κs =
 
 judge-bulk-requires : tie.Need-judge-bulk-requires Inv-loop μ-loop
 judge-bulk-requires c κs =
-    let a = c .before .before .before .before .before .before .before .before .before .before .before .before .before .before .before .before .before .before .args in
+    let start = c .before .before .before .before .before .before .before .before .before .before .before .before .before .before .before .before .before .before in
+    let a = start .args in
     let l = c .before .before .before .before .before .before .before .before .loop in
     let low = c .before .before .before .before .before .before .before .loop-test .taken in
     let read = c .before .before .before .before .before .before .bulk in (
-      header-ready (a .terms) (a .table .now) (a .sheet .now) (a .indexed) (a .contents .bulks) (stateOf (a .register .now) (a .positions .now)) (a .index .now) (a .report .now) (l .register) (l .index) (l .positions) (l .report) (l .slots) (l .walk .heads .at) (l .walk .bodies .at) (l .places .line) (l .places .section) (l .k) (l .inv) low (read .result) (read .ensures) (l .inv .positionsWide ∙ c .before .before .before .before .before .before .before .before .before .before .before .before .before .before .before .before .before .before .pre .0 .places),
+      header-ready (a .terms) (a .table .now) (a .sheet .now) (a .indexed) (a .contents .bulks) (stateOf (a .register .now) (a .positions .now)) (a .index .now) (a .report .now) (l .register) (l .index) (l .positions) (l .report) (l .slots) (l .walk .heads .at) (l .walk .bodies .at) (l .places .line) (l .places .section) (l .k) (l .inv) low (read .result) (read .ensures) (l .inv .positionsWide ∙ start .pre .0 .places),
       section-ready (a .terms) (a .table .now) (a .sheet .now) (a .indexed) (a .contents .bulks) (stateOf (a .register .now) (a .positions .now)) (a .index .now) (a .report .now) (l .register) (l .index) (l .positions) (l .report) (l .slots) (l .walk .heads .at) (l .walk .bodies .at) (l .places .line) (l .places .section) (l .k) (l .inv) low (read .result) (read .ensures),
       bulk-space (a .terms) (a .table .now) (a .sheet .now) (a .indexed) (a .contents .bulks) (stateOf (a .register .now) (a .positions .now)) (a .index .now) (a .report .now) (l .register) (l .index) (l .positions) (l .report) (l .slots) (l .walk .heads .at) (l .walk .bodies .at) (l .places .line) (l .places .section) (l .k) (l .inv) low (read .result) (read .ensures) (l .places) refl refl,
       bulk-places (a .terms) (a .table .now) (a .sheet .now) (a .indexed) (a .contents .bulks) (stateOf (a .register .now) (a .positions .now)) (a .index .now) (a .report .now) (l .register) (l .index) (l .positions) (l .report) (l .slots) (l .walk .heads .at) (l .walk .bodies .at) (l .places .line) (l .places .section) (l .k) (l .inv) low (read .result) (read .ensures),

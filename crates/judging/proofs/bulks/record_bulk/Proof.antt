@@ -11,8 +11,9 @@ returns c =
 
 returns-2 : tie.Need-returns-2
 returns-2 c =
-    let a = c .before .before .before .before .args in
-    recorded-none (a .indexed) (a .register .now) (a .index .now) (a .key .now) (a .accepted) (c .if1 .left) (c .before .before .before .before .pre .ready .kept)
+    let start = c .before .before .before .before in
+    let a = start .args in
+    recorded-none (a .indexed) (a .register .now) (a .index .now) (a .key .now) (a .accepted) (c .if1 .left) (start .pre .ready .kept)
 
 pub record-bulk-spec : {M : Type 1} → statement M
 record-bulk-spec = tie.close (tie.spec (λ c κs. search needs) (λ c. search needs) (λ c. search needs) returns returns-2)
