@@ -1,8 +1,9 @@
-// Runs the values at the edges of the rules through the proved judge and the proved reader, and prints a line for each. The cases are
-// the lines of `stdin`, which say what they do at their start; `stdout` was worked out by hand from the rules. Proved is that the
-// program is safe and ends; what it prints is compared.
+// Runs the values at the edges of the rules through the proved judge, without an index and by one, and the proved reader, and prints a line
+// for each. The cases are the lines of `stdin`, which say what they do at their start; `stdout` was worked out by hand from the rules.
+// Proved is that the program is safe and ends; what it prints is compared.
 mod documents;
 mod files;
+mod indexed;
 mod say;
 mod words;
 
@@ -10,7 +11,7 @@ use crate::documents::Ends;
 use judging::Answer;
 use rules::Terms;
 
-const MOST_SCRIPT: usize = 16384;
+const MOST_SCRIPT: usize = 20480;
 
 // What comes of a sheet on a date.
 fn judge(date: u32, sheet: &[u8], register: &mut [u8]) {
@@ -92,12 +93,19 @@ fn step(line: &[u8], model: &mut [u8], sheet: &[u8], register: &mut [u8]) {
 }
 
 // The lines of the judge.
-fn judge_all(script: &[u8], model: &mut [u8], sheet: &mut [u8], register: &mut [u8]) {
+fn judge_all(
+    script: &[u8],
+    model: &mut [u8],
+    sheet: &mut [u8],
+    register: &mut [u8],
+    index: &mut [u8],
+) {
     let mut at = 0;
     while at < script.len() {
         let line = words::line(script, at);
         change(line, model, sheet);
         step(line, model, sheet, register);
+        indexed::step(line, sheet, register, index);
         at += line.len() + 1;
     }
 }
@@ -127,9 +135,10 @@ fn main() {
     let mut model = files::model();
     let mut sheet = files::large();
     let mut register = files::large();
+    let mut index = indexed::empty();
     let mut text = documents::empty();
     let n = io::read_full(libc::STDIN_FILENO, &mut script);
     let lines = wire::text_at(&script, 0, n);
-    judge_all(lines, &mut model, &mut sheet, &mut register);
+    judge_all(lines, &mut model, &mut sheet, &mut register, &mut index);
     read_all(lines, &mut text);
 }

@@ -10,6 +10,8 @@ const AMOUNT: usize = 54;
 
 const HEADER: usize = 65;
 
+const SLOT: usize = 4;
+
 pub(crate) fn text(words: &[u8]) {
     io::write_all(libc::STDOUT_FILENO, words);
 }
@@ -39,9 +41,14 @@ pub(crate) fn date(line: &[u8], is: bool) {
     }
 }
 
-pub(crate) fn refusal(number_of_it: u32) {
+pub(crate) fn refused(number_of_it: u32) {
     text(b"refusal ");
-    last(number_of_it as u64);
+    number(number_of_it as u64);
+}
+
+pub(crate) fn refusal(number_of_it: u32) {
+    refused(number_of_it);
+    text(b"\n");
 }
 
 fn bit(faults: u16, k: u16)
@@ -103,14 +110,45 @@ fn size(length: usize) {
 }
 
 // The report of one bulk, and how many entries of the register are used after it.
-pub(crate) fn report(register: &[u8], report: &[u8]) {
+pub(crate) fn outcome(register: &[u8], report: &[u8]) {
     if (report.len() <= 4) | (MOST_SHOWN < report.len()) {
         size(report.len());
     } else {
         bulk(report);
     }
     text(b"; register holds ");
-    last(register::used(register) as u64);
+    number(register::used(register) as u64);
+}
+
+pub(crate) fn report(register: &[u8], report: &[u8]) {
+    outcome(register, report);
+    text(b"\n");
+}
+
+// The slots of an index.
+pub(crate) fn slots(index: &[u8]) {
+    if index.len() == 0 {
+        text(b"no slots");
+        return;
+    }
+    text(b"slots");
+    let mut i = 0;
+    while i < index.len() / SLOT {
+        text(b" ");
+        number(wire::u32_at(index, SLOT * i) as u64);
+        i += 1;
+    }
+}
+
+// How many slots the searches read.
+pub(crate) fn read(slots: u64) {
+    text(b"; slots read ");
+    number(slots);
+}
+
+pub(crate) fn as_built(bytes: u64) {
+    text(b"; bytes as built ");
+    last(bytes);
 }
 
 // The row that a lookup found.
@@ -135,8 +173,7 @@ pub(crate) fn sheet(length: usize, sheet: &[u8]) {
 
 // Why a text is no sheet, and where that was met.
 pub(crate) fn stop(number_of_it: u32, place: usize) {
-    text(b"refusal ");
-    number(number_of_it as u64);
+    refused(number_of_it);
     text(b" at ");
     number(place as u64);
 }

@@ -11,14 +11,14 @@ use native.Mathlib.Omega.{arith}
 use lib.Dec.{lit≤}
 use lib.ListN.{length, drop}
 use lib.Seq.{take-take}
-use Rattle.wire.specs.Field.{Bytes, same}
+use Rattle.wire.specs.Field.{same}
 use Rattle.wire.specs.Places.{firstFrom}
 use Rattle.wire.proofs.Scans.{first-found}
 use Rattle.slots.specs.Slots.{names}
 use Rattle.slots.specs.Stored.{mostSlots, added}
 use Rattle.slots.specs.Asked.{Within, Sized}
 use Rattle.slots.proofs.Walks.{names-told, names-least}
-use Rattle.slots.proofs.Laws.{built-length, built-bytes, built-finds, built-reads, stored-is, built-add}
+use Rattle.slots.proofs.Laws.{built-length, built-finds, built-reads, stored-is, built-add}
 use Rattle.register.specs.Register.{keyWidth, entryWidth, used, room, inUse, entryPlace, entryAt, keyAt, keyIn, search, isThere, stands, add}
 use Rattle.register.specs.Room.{Formed}
 use Rattle.register.proofs.Laws.{key-of-entry, add-room, add-used, add-old, add-new}
@@ -30,10 +30,6 @@ use Rattle.index.specs.Searches.{Search, slotsReadBy, mostRead, AllForme
 pub index-length : (r : List ℕ) → length (indexOf r) ≡ indexLength r
 unfolding indexOf
 index-length r = built-length entryLayout r (indexLength r) (inUse r)
-
-pub index-bytes : (r : List ℕ) → Bytes (indexOf r)
-unfolding indexOf
-index-bytes r = built-bytes entryLayout r (indexLength r) (inUse r)
 
 -- the keys of the entries in use lie in the register
 pub keys-within : (r : List ℕ) → Formed r → Within entryLayout r (inUse r)

@@ -7,10 +7,10 @@ use Prim.Native.Nat.{ℕ, _+_, _*_, _≤_}
 use native.Mathlib.Nat.{zero-add}
 use native.Mathlib.Omega.{arith}
 use lib.ListN.{length}
-use Rattle.slots.specs.Slots.{endAfter}
 use Rattle.slots.specs.Stored.{mostSlots}
-use Rattle.slots.proofs.Stored.{slots-many}
-use Rattle.index.specs.Index.{indexOf, endIn}
+use Rattle.slots.proofs.Laws.{stored-reads}
+use Rattle.register.specs.Register.{inUse}
+use Rattle.index.specs.Index.{entryLayout, indexOf, endIn}
 use Rattle.index.specs.Searches.{Search, slotsRead, slotsReadBy}
 use Rattle.index.specs.Ready.{indexBy, nowhere}
 
@@ -33,8 +33,7 @@ read-of true s = refl
 read-of false s = refl
 
 read-few : (t : Bool) (s : Search) → slotsRead t s ≤ mostSlots
-unfolding endAfter
-read-few true s = let n = slots-many (indexOf (s .register)) in omega arith
+read-few true s = let all = stored-reads entryLayout (s .register) (inUse (s .register)) (s .key) (indexOf (s .register)) in omega arith
 read-few false s = omega arith
 
 -- so no count of them passes 64 bits

@@ -18,7 +18,7 @@ use Rattle.rules.specs.declared.Terms.{Terms}
 use Rattle.messages.specs.Messages.{State}
 use Rattle.messages.specs.Searches.{messageSearches}
 use Rattle.messages.proofs.Walks.{messages-spare, messages-formed, searches-length}
-use Rattle.judging.specs.Judgement.{falls, messagesJudged, afterBulk, judgeBulks}
+use Rattle.judging.specs.Judgement.{falls, messagesJudged, afterBulk}
 use Rattle.judging.specs.Searches.{bulkSearch, searchAgain, bulkSearches, searches}
 
 module _ (terms : Terms) (table : List ℕ) where
@@ -37,16 +37,6 @@ module _ (terms : Terms) (table : List ℕ) where
           → Spare (cond t (messagesJudged terms table b before .after) (record { register = add (messagesJudged terms table b before .after .register) (key (senderOf (b .header)) (bulkIdentifierOf (b .header)) bulkTag); positions = messagesJudged terms table b before .after .positions }) .register) n
       by-count true = spare-less _ (suc n) n (omega arith) judged
       by-count false = spare-add _ _ n judged
-
-  pub bulks-spare : (bs : List Bulk) (before : State) (n : ℕ) → Spare (before .register) (length bs + countMessages bs + n) → Spare (judgeBulks terms table bs before .after .register) n
-  unfolding judgeBulks countMessages
-  bulks-spare [] before n spare = spare-less (before .register) (0 + 0 + n) n (omega arith) spare
-  bulks-spare (b ∷ bs) before n spare =
-      let m = length (b .messages) in
-      let k = length bs in
-      let c = countMessages bs in
-      bulks-spare bs (afterBulk terms table b before) n
-      (bulk-spare b before (k + c + n) (spare-less (before .register) (suc k + (m + c) + n) (suc (m + (k + c + n))) (omega arith) spare))
 
   -- ---- each search is made in a register that is well formed
 

@@ -38,11 +38,11 @@ use Rattle.promises.proofs.Telling.{every-line-tells}
 -- ---- what a call comes to by whether it is refused
 
 module _ (call : Call) (index : List ℕ) where
-  indexed-judged : indexedRefusal call index ≡ 0 → indexedOutcome call index ≡ indexedJudged call
+  pub indexed-judged : indexedRefusal call index ≡ 0 → indexedOutcome call index ≡ indexedJudged call
   unfolding indexedOutcome
   indexed-judged e = rw e
 
-  indexed-refused : (indexedRefusal call index ≡ 0 → ⊥) → indexedOutcome call index ≡ indexedAway call index (indexedRefusal call index)
+  pub indexed-refused : (indexedRefusal call index ≡ 0 → ⊥) → indexedOutcome call index ≡ indexedAway call index (indexedRefusal call index)
   unfolding indexedOutcome
   indexed-refused e = rw (ne-eqb (indexedRefusal call index) 0 e)
 

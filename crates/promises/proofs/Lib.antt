@@ -10,8 +10,11 @@ pub mod DeterminedJudge
 pub mod DeterminedPrint
 pub mod DeterminedReader
 pub mod Entered
+pub mod Entries
 pub mod Fit
 pub mod IndexReadings
+pub mod IndexedMeeting
+pub mod IndexedShutOut
 pub mod Indexing
 pub mod Joined
 pub mod Leaving

@@ -119,14 +119,14 @@ repeated =
       report = space;
     }
 
-abbrev file : List ℕ → File
+abbrev pub file : List ℕ → File
 file sheet = record { sheet = sheet; space = space }
 
 pub no-cents : Bytes zeros
 unfolding outcomesCompute allBytes
 no-cents = bytes-by zeros refl
 
-in-bytes : (sheet : List ℕ) → allBytes sheet ≡ true → InBytes (callOn sheet)
+pub in-bytes : (sheet : List ℕ) → allBytes sheet ≡ true → InBytes (callOn sheet)
 unfolding outcomesCompute allBytes
 in-bytes sheet e =
     record {

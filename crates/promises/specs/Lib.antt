@@ -1,9 +1,12 @@
 pub mod Determined
 pub mod Reading
+pub mod Entries
 pub mod Code
 pub mod Cut
 pub mod Demands
 pub mod Runs
 pub mod Indexed
+pub mod IndexedCode
 pub mod Edges
 pub mod Wrong
+pub mod WrongIndexed

@@ -22,9 +22,6 @@ unfolding startAt
 start-rest v zero h = absurd (omega arith)
 start-rest v (suc n) h = refl
 
-pub start-below : (v n : ℕ) → 0 < n → startAt v n < n
-start-below v n h = rw (start-rest v n h) (mod-lt v h)
-
 pub start-within : (v n : ℕ) → startAt v n ≤ n
 unfolding startAt
 start-within v zero = omega arith
