@@ -112,7 +112,9 @@ int main(int argc, char **argv) {
     sizes s = {strtoul(argv[2], NULL, 10), strtoul(argv[3], NULL, 10), strtoul(argv[4], NULL, 10),
                strtoul(argv[5], NULL, 10), USUAL};
     if (s.rows == 0 || s.bulks == 0 || s.entries + s.bulks + s.messages > ROOM) fail("no such size");
-    if (argc == 7) s.kind = strcmp(argv[6], "falling") == 0 ? FALLING : CROWDED;
+    if (argc == 7 && strcmp(argv[6], "falling") == 0) s.kind = FALLING;
+    if (argc == 7 && strcmp(argv[6], "crowded") == 0) s.kind = CROWDED;
+    if (argc == 7 && s.kind == USUAL) fail("falling or crowded?");
     if (strcmp(argv[1], "each") == 0) {
         run_each(&s);
         return 0;

@@ -75,10 +75,10 @@ tynderaxo_answer tynderaxo_judge(uint32_t date,
 
 /*
  * number: as above, or one of these two, which are tried after 4 and before 5:
- *   12  the index is not 8 bytes for each place of the register
+ *   12  the index is not as long as the register asks: index_len is not (reg_len - 4) / 44 * 8
  *   13  the index is not the one that tynderaxo_build_index writes for the register
  * length: as above.
- * slots:  the slots that the searches read; 0 with any refusal, and then no byte of index has changed either.
+ * slots:  the slots that the searches looked at; 0 with any refusal, and then no byte of index has changed either.
  */
 typedef struct {
     uint32_t number;
@@ -87,14 +87,16 @@ typedef struct {
 } tynderaxo_indexed_answer;
 
 /*
- * Judges the sheet as tynderaxo_judge does, and finds the register's entries by an index of it. Unless it answers 12 or 13, number, length,
- * register, positions and report are those of tynderaxo_judge. The index is kept as entries are added, so it serves for the next file too.
+ * Judges the sheet as tynderaxo_judge does, and finds the register's entries by an index of it. Unless it answers 12 or 13,
+ * number, length, register, positions and report are those of tynderaxo_judge. The index is kept as entries are added, so it
+ * serves for the next file too.
  *
- * An index has two slots of 4 bytes for each of the c places of the register, 8c bytes in all. A slot is 0 where it is empty, else the
- * place in the register, counted from 1, of the entry that it names. A search starts at the slot that the entry's 44 bytes give, read as a number to
- * base 257, the first byte the highest digit, modulo 2c. It goes forward, round the end, to the slot that names the entry or to the first empty
- * one, and reads at most one slot more than entries are used. There is one search for each bulk and each message, and one more for each bulk that is
- * recorded. Whether the index is right is looked at in every call, which costs a search for each entry used, and is not counted in slots.
+ * An index has two slots of 4 bytes for each of the c entries that the register has room for. A slot is 0 where it is empty,
+ * else it names an entry by its place in the register, counted from 1. An entry's 44 bytes, read as a number to base 257 with
+ * the first byte as the highest digit, give modulo 2c the slot at which its search starts. From there it goes forward, and
+ * behind the last slot on with the first, to the slot that names the entry or to an empty one: at most one slot more than
+ * entries are used. There is a search for each bulk and each message, and one more for each bulk that is recorded. That the
+ * index is right is looked at in every call; it costs a search for each entry used, which slots does not count.
  */
 tynderaxo_indexed_answer tynderaxo_judge_indexed(uint32_t date,
                                                  const uint8_t *sheet, size_t sheet_len,

@@ -26,7 +26,7 @@ fn equal_bytes(what: &str, got: &[u8], wanted: &[u8]) -> Result<(), Trouble> {
         return Ok(());
     }
     match got.iter().zip(wanted).position(|(left, right)| left != right) {
-        None => Ok(()),
+        None => equal(&format!("{what}, length"), got.len(), wanted.len()),
         Some(place) => equal(&format!("{what}, byte {place}"), got[place], wanted[place]),
     }
 }

@@ -245,7 +245,7 @@ fn refusals_12_and_13_stand_between_4_and_5() {
 }
 
 #[test]
-fn generated_calls_read_no_more_than_the_entries_and_one_a_search() {
+fn generated_calls_read_no_more_a_search_than_all_entries_left_and_one() {
     let mut tried = [0; 14];
     for case in 0..4_000 {
         let call = generate::call(&mut Random::of(5, case));

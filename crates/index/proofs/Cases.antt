@@ -173,6 +173,9 @@ additions =
     ∷ adds (4 ∷ 10 ∷ []) 1 (0 ∷ 0 ∷ 0 ∷ 0 ∷ 1 ∷ 2 ∷ []) 10 (0 ∷ 0 ∷ 0 ∷ 0 ∷ 1 ∷ 2 ∷ [])
     ∷ adds [] 3 (0 ∷ 0 ∷ 0 ∷ 0 ∷ 0 ∷ 0 ∷ []) 5 (0 ∷ 0 ∷ 0 ∷ 0 ∷ 0 ∷ 1 ∷ [])
     ∷ adds (4 ∷ 10 ∷ []) 1 (7 ∷ 0 ∷ 0 ∷ 0 ∷ 1 ∷ 2 ∷ []) 16 (3 ∷ 0 ∷ 0 ∷ 0 ∷ 1 ∷ 2 ∷ [])
+    -- all taken, and no slots at all
+    ∷ adds (4 ∷ 10 ∷ 16 ∷ []) 0 (1 ∷ 2 ∷ 3 ∷ 1 ∷ 2 ∷ 3 ∷ []) 22 (1 ∷ 2 ∷ 3 ∷ 1 ∷ 2 ∷ 3 ∷ [])
+    ∷ adds [] 0 [] 4 []
     ∷ []
 
 additionsRight : map (λ q. (let r = register (q .keys) (q .free) in added (searchedBy r (index (q .slots)) (last (q .key))) (used r) (index (q .slots)))) additions ≡ map (λ q. index (q .then)) additions

@@ -23,7 +23,8 @@ use Rattle.register.specs.Register.{keyWidth, entryWidth, used, room, inUse, en
 use Rattle.register.specs.Room.{Formed}
 use Rattle.register.proofs.Laws.{key-of-entry, add-room, add-used, add-old, add-new}
 use Rattle.index.specs.Index.{entryLayout, slotsAPlace, indexLength, searchedBy, indexOf, endIn}
-use Rattle.index.specs.Searches.{Search, slotsReadBy, mostRead, AllFormed}
+use Rattle.index.specs.Searches.{Search, slotsReadBy, mostRead}
+use Rattle.index.proofs.Ways.{AllFormed}
 
 -- ---- the index in bytes
 
@@ -62,8 +63,8 @@ both true b p q = sym (p refl)
 both false true p q = q refl
 both false false p q = refl
 
--- whatever the index holds, what is found in it stands in the register
-pub found-stands : (r index key : List ℕ) → names (inUse r) (searchedBy r index key .name) ≡ true → stands r key ≡ true
+-- a hit is a hit in any index: the register has the key
+found-stands : (r index key : List ℕ) → names (inUse r) (searchedBy r index key .name) ≡ true → stands r key ≡ true
 unfolding stands search
 found-stands r index key e =
     let told = names-told (inUse r) (searchedBy r index key .name) e in
@@ -79,11 +80,11 @@ module _ (r : List ℕ) (f : Formed r) (key : List ℕ) where
       let is = first-found (λ k. same (keyAt r k) key) (inUse r) 0 (at .0) (at .1) in
       built-finds entryLayout r (indexLength r) (slotsAPlace * room r) refl (omega (arith, f .few)) (inUse r) (omega arith) key (at .0) (omega (arith, is .1)) (is .2)
 
-  -- in its own index a key is found exactly if it stands in the register
+  -- and by its own index no key of the register is missed
   pub finds : names (inUse r) (endIn r key .name) ≡ stands r key
   finds = both (names (inUse r) (endIn r key .name)) (stands r key) (found-stands r (indexOf r) key) stands-found
 
-  -- and no more slots are read than entries are in use, and one
+  -- looking at one slot more than entries at most
   pub reads : endIn r key .read ≤ used r + 1
   unfolding indexOf
   reads =

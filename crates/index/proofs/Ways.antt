@@ -10,6 +10,7 @@ use lib.ListN.{length}
 use Rattle.slots.specs.Stored.{mostSlots}
 use Rattle.slots.proofs.Laws.{stored-reads}
 use Rattle.register.specs.Register.{inUse}
+use Rattle.register.specs.Room.{Formed}
 use Rattle.index.specs.Index.{entryLayout, indexOf, endIn}
 use Rattle.index.specs.Searches.{Search, slotsRead, slotsReadBy}
 use Rattle.index.specs.Ready.{indexBy, nowhere}
@@ -26,6 +27,12 @@ module _ (index index' r : List ℕ) where
   index-own true e = e
   index-own false e = refl
 
+-- ---- searches in registers that are well formed
+
+unfoldable pub AllFormed : List Search → Type 0
+AllFormed [] = Unit
+AllFormed (s ∷ ss) = (Formed (s .register)) × (AllFormed ss)
+
 -- ---- the slots that are read
 
 pub read-of : (t : Bool) (s : Search) → cond t (endIn (s .register) (s .key)) nowhere .read ≡ slotsRead t s
@@ -37,10 +44,10 @@ read-few true s = let all = stored-reads entryLayout (s .register) (inUse (s .re
 read-few false s = omega arith
 
 -- so no count of them passes 64 bits
-pub reads-few : (t : Bool) (ss : List Search) → slotsReadBy t ss ≤ mostSlots * length ss
+pub reads-fit : (t : Bool) (ss : List Search) → slotsReadBy t ss ≤ mostSlots * length ss
 unfolding slotsReadBy
-reads-few t [] = omega arith
-reads-few t (s ∷ ss) = let one = read-few t s in let rest = reads-few t ss in omega arith
+reads-fit t [] = omega arith
+reads-fit t (s ∷ ss) = let one = read-few t s in let rest = reads-fit t ss in omega arith
 
 pub reads-append : (t : Bool) (ss us : List Search) → slotsReadBy t (ss ++ us) ≡ slotsReadBy t ss + slotsReadBy t us
 unfolding slotsReadBy

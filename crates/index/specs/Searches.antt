@@ -3,7 +3,6 @@ use Prim.Native.Nat.{ℕ, _+_}
 use mathlib.Core.Bool.{Bool, cond}
 use mathlib.Core.List.{List, [], _∷_}
 use Rattle.register.specs.Register.{used}
-use Rattle.register.specs.Room.{Formed}
 use Rattle.index.specs.Index.{endIn}
 
 -- the search of a key in a register
@@ -23,7 +22,3 @@ slotsReadBy indexed (s ∷ ss) = slotsRead indexed s + slotsReadBy indexed ss
 unfoldable pub mostRead : List Search → ℕ
 mostRead [] = 0
 mostRead (s ∷ ss) = used (s .register) + 1 + mostRead ss
-
-unfoldable pub AllFormed : List Search → Type 0
-AllFormed [] = Unit
-AllFormed (s ∷ ss) = (Formed (s .register)) × (AllFormed ss)

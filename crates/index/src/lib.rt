@@ -7,8 +7,6 @@ ghost use Rattle.index.specs.Ready.{Ready, SoughtTold, EnterReady, Enter
 use slots::Ended;
 use slots::Layout;
 
-const SLOT_WIDTH: usize = 4;
-
 const SLOTS_A_PLACE: usize = 2;
 
 // What a search tells: whether the key is there, and of a search by the index how it ended.
@@ -31,7 +29,7 @@ fn entry_layout() -> Layout
 pub fn length_for(register: &[u8]) -> usize
     ensures { λ r. ⌜ r ≡ indexLength (now (register .entry)) ⌝ }
 {
-    SLOT_WIDTH * (SLOTS_A_PLACE * register::room(register))
+    slots::SLOT_WIDTH * (SLOTS_A_PLACE * register::room(register))
 }
 
 // Whether a key stands in the register.

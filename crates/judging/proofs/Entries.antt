@@ -12,8 +12,8 @@ use Rattle.slots.specs.Stored.{mostSlots}
 use Rattle.register.specs.Register.{key, bulkTag, add}
 use Rattle.register.specs.Room.{Spare}
 use Rattle.register.proofs.Laws.{spare-less, spare-add}
-use Rattle.index.specs.Searches.{Search, slotsRead, slotsReadBy, AllFormed}
-use Rattle.index.proofs.Ways.{reads-few, reads-append}
+use Rattle.index.specs.Searches.{Search, slotsRead, slotsReadBy}
+use Rattle.index.proofs.Ways.{AllFormed, reads-fit, reads-append}
 use Rattle.rules.specs.declared.Terms.{Terms}
 use Rattle.messages.specs.Messages.{State}
 use Rattle.messages.specs.Searches.{messageSearches}
@@ -118,7 +118,7 @@ module _ (terms : Terms) (table : List ℕ) where
 
   pub slots-few : (indexed : Bool) (bs : List Bulk) (before : State) → slotsReadBy indexed (searches terms table bs before) ≤ mostSlots * (2 * length bs + countMessages bs)
   slots-few indexed bs before =
-      let most = reads-few indexed (searches terms table bs before) in
+      let most = reads-fit indexed (searches terms table bs before) in
       let few = searches-few bs before in
       omega arith
 

@@ -18,9 +18,9 @@ module _ (register index : List ℕ) (good : Bool) where
   unformed-told told bad = rw (← (told .is), bad)
 
   module _ (n : ℕ) (told : FormTold register good) (yes-formed : good ≡ true) (long : n ≡ indexLength register) where
-    pub short-told : (length index ≡ n → ⊥) → builtLeft (Unbuilt IndexLength) index ≡ indexBuilt register index
+    pub other-length-told : (length index ≡ n → ⊥) → builtLeft (Unbuilt IndexLength) index ≡ indexBuilt register index
     unfolding indexBuilt
-    short-told differs = rw (← (told .is), yes-formed, ← long, ne-eqb (length index) n differs)
+    other-length-told differs = rw (← (told .is), yes-formed, ← long, ne-eqb (length index) n differs)
 
     pub build-ready : length index ≡ n → Measured register index
     build-ready e = record { formed = told .formed yes-formed; long = e ∙ long }

@@ -90,6 +90,7 @@ pub fn judge(
 ) -> Answer
     ensures { λ r. ⌜ left r (now (register .exit)) (now (positions .exit)) (now (report .exit)) ≡ outcome (callOf terms (now (sheet .entry)) (now (table .entry)) (now (register .entry)) (now (positions .entry)) (now (report .entry))) ⌝ }
 {
+    // Lent in place of an index: nothing reads or writes it.
     let mut none = [0u8; 1];
     let told = judge_by(
         terms,

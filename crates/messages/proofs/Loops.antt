@@ -16,7 +16,7 @@ use Rattle.register.specs.Room.{Spare}
 use Rattle.register.proofs.Laws.{spare-less}
 use Rattle.index.specs.Searches.{slotsRead, slotsReadBy}
 use Rattle.index.specs.Ready.{indexBy, Ready}
-use Rattle.index.proofs.Ways.{index-then, index-own, reads-few}
+use Rattle.index.proofs.Ways.{index-then, index-own, reads-fit}
 use Rattle.report.specs.Line.{messageLineWidth}
 use Rattle.report.proofs.Laws.{line-within}
 use Rattle.tally.proofs.Laws.{within-none, within-accepted, within-rejected, within-room}
@@ -96,7 +96,7 @@ module _ (terms : Terms) (table header : List ℕ) (fallen indexed : Bool) (kind
         let split = records-step (messageWidth kind) sheet n j place h in
         let sum = rw split at (left .counted) in
         let first = slots-first terms table header fallen indexed (messageAt sheet kind place) (recordsAt sheet (messageWidth kind) (n - (j + 1)) (place + messageWidth kind)) (stateOf register positions) in
-        let most = reads-few indexed (messageSearches terms table header fallen (recordsAt sheet (messageWidth kind) n at) before) in
+        let most = reads-fit indexed (messageSearches terms table header fallen (recordsAt sheet (messageWidth kind) n at) before) in
         let many = searches-length terms table header fallen indexed (recordsAt sheet (messageWidth kind) n at) before ∙ records-length (messageWidth kind) sheet n at in
         omega (arith, sum, first, most, many, e)
 

@@ -7,7 +7,8 @@ use native.Mathlib.Omega.{arith}
 use lib.ListN.{length}
 use Rattle.register.specs.Room.{Spare}
 use Rattle.register.proofs.Laws.{spare-less, spare-add}
-use Rattle.index.specs.Searches.{slotsRead, slotsReadBy, AllFormed}
+use Rattle.index.specs.Searches.{slotsRead, slotsReadBy}
+use Rattle.index.proofs.Ways.{AllFormed}
 use Rattle.tally.specs.Tally.{Totals}
 use Rattle.messages.specs.Messages.{State, isAccepted, faultsOf, afterAccepted, afterMessage, lineOf, counted, judgeMessages}
 use Rattle.messages.specs.Searches.{messageSearch, messageSearches}

@@ -61,6 +61,7 @@ unfolding outcomesCompute messageSearches bulkSearches searches indexedOutcome i
 indexed-shut-out =
     record {
       contentsBeforeLength = λ s. zero-is-one (ap (λ (n : ℕ). 13 - n) (s (callOn one) [] .number));
+      contentsBeforeRegister = λ s. zero-is-one (sym (ap (λ (n : ℕ). n / 13) (s (on (0 ∷ [])) (0 ∷ []) .number)));
       lengthBeforeRegister = λ s. zero-is-one (ap (λ (n : ℕ). (12 - n) / 8) (s (on (0 ∷ [])) (0 ∷ []) .number));
       trustsTheIndex = λ s. zero-is-one (ap (λ (n : ℕ). n / 13) (s (on once) (blank once) .number));
       refusesEveryIndex = λ s. zero-is-one (sym (ap (λ (n : ℕ). n / 13) (s (callOn one) own .number)));
@@ -76,7 +77,7 @@ indexed-shut-out =
       countsOneLess = λ s. zero-is-one (ap (λ (n : ℕ). n - 2) (s (callOn one) own .tells (in-bytes one refl) refl .slots));
       countsNothing = λ s. zero-is-one (ap (λ (n : ℕ). n / 3) (s (callOn one) own .tells (in-bytes one refl) refl .slots));
       countsTheMost = λ s. zero-is-one (sym (ap (λ (n : ℕ). n - 3) (s (callOn one) own .tells (in-bytes one refl) refl .slots)));
-      writesThoughLengthIsWrong = λ s. zero-is-one (ap (λ (x : List ℕ). getD x 0 0) (s empty (1 ∷ []) .short refl (λ e. omega arith) .1));
+      writesThoughLengthIsWrong = λ s. zero-is-one (ap (λ (x : List ℕ). getD x 0 0) (s empty (1 ∷ []) .otherLength refl (λ e. omega arith) .1));
       namesNone = λ s. zero-is-one (ap named (s once (blank once) .fits refl refl .1));
       namesNoneForTheJudge = λ s. s (on once) (blank once) refl .contents refl;
       namesRepeats = λ s. zero-is-one (sym (ap (λ (x : List ℕ). named x - 1) (s twice (blank twice) .fits refl refl .1)));

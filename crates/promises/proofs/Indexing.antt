@@ -13,7 +13,7 @@ use Rattle.wire.proofs.Texts.{same-equal, same-itself}
 use Rattle.sheet.specs.Sheet.{bulksOf, bulkCount, messageCount, countMessages}
 use Rattle.register.specs.Register.{wellFormed}
 use Rattle.index.specs.Index.{indexOf, indexLength}
-use Rattle.index.specs.Searches.{AllFormed}
+use Rattle.index.proofs.Ways.{AllFormed}
 use Rattle.index.proofs.Laws.{reads-most}
 use Rattle.rules.specs.declared.Terms.{Terms}
 use Rattle.refusing.specs.Refusals.{Call, refusalNumber, lengthWrong, holdsGiven, refusal, indexedRefusal}
@@ -99,6 +99,7 @@ indexed-demanded call index =
             slots = rw (indexed-judged call index e);
             few = rw (indexed-judged call index e) (reads-most (searchesOf call) (all-formed call plain));
           };
+      own = λ own. let left = as-own call index own in left .kept ∙ ap (λ (o : Outcome). indexOf (o .register)) (sym (left .is));
     }
   where
     number : Dec (indexedRefusal call index ≡ 0) → indexedOutcome call index .outcome .number ≡ indexedRefusal call index
@@ -204,7 +205,7 @@ unfolding indexBuilt
 builds-as-written register index =
     record {
       unformed = λ e. rw e (refl, refl);
-      short = λ e differs. rw (e, ne-eqb (length index) (indexLength register) differs) (refl, refl);
+      otherLength = λ e differs. rw (e, ne-eqb (length index) (indexLength register) differs) (refl, refl);
       fits = λ e long. rw (e, eq-eqb (length index) (indexLength register) long) (refl, refl);
     }
 

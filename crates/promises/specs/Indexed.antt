@@ -48,6 +48,8 @@ pub record IndexedDemanded (call : Call) (index : List ℕ) (left : IndexedOutco
   pub number : left .outcome .number ≡ indexedRefusal call index
   pub untouched : (indexedRefusal call index ≡ 0 → ⊥) → IndexedUntouched call index left
   pub tells : InBytes call → indexedRefusal call index ≡ 0 → IndexedTells call left
+  -- judged or refused, an index that is the register's own is left as that of the register left
+  pub own : index ≡ indexOf (call .register) → left .index ≡ indexOf (left .outcome .register)
 
 abbrev pub IndexedMeets : IndexedJudge → Type 0
 IndexedMeets judge = (call : Call) (index : List ℕ) → IndexedDemanded call index (judge call index)
@@ -109,7 +111,7 @@ IndexedRunsAsPromised judge =
 
 pub record Builds (register index : List ℕ) (built : IndexBuilt) : Type 0 where
   pub unformed : wellFormed register ≡ false → (built .number ≡ refusalNumber Register) × (built .index ≡ index)
-  pub short : wellFormed register ≡ true → (length index ≡ indexLength register → ⊥) → (built .number ≡ refusalNumber IndexLength) × (built .index ≡ index)
+  pub otherLength : wellFormed register ≡ true → (length index ≡ indexLength register → ⊥) → (built .number ≡ refusalNumber IndexLength) × (built .index ≡ index)
   pub fits : wellFormed register ≡ true → length index ≡ indexLength register → (built .number ≡ 0) × (built .index ≡ indexOf register)
 
 abbrev pub BuildsAsWritten : Builder → Type 0

@@ -29,6 +29,10 @@ refusesInOrder order call index =
 abbrev pub contentsBeforeLength : List Refusal
 contentsBeforeLength = Date ∷ Table ∷ Positions ∷ Register ∷ IndexContents ∷ IndexLength ∷ Sheet ∷ Size ∷ Kind ∷ Order ∷ Room ∷ Limit ∷ Space ∷ []
 
+-- 13 before 4
+abbrev pub contentsBeforeRegister : List Refusal
+contentsBeforeRegister = Date ∷ Table ∷ Positions ∷ IndexContents ∷ Register ∷ IndexLength ∷ Sheet ∷ Size ∷ Kind ∷ Order ∷ Room ∷ Limit ∷ Space ∷ []
+
 -- 12 before 4
 abbrev pub lengthBeforeRegister : List Refusal
 lengthBeforeRegister = Date ∷ Table ∷ Positions ∷ IndexLength ∷ Register ∷ IndexContents ∷ Sheet ∷ Size ∷ Kind ∷ Order ∷ Room ∷ Limit ∷ Space ∷ []
@@ -115,6 +119,7 @@ namesRepeats register = namesTo register (inUse register)
 
 pub record IndexedShutOut : Type 0 where
   pub contentsBeforeLength : IndexedMeets (refusesInOrder contentsBeforeLength) → ⊥
+  pub contentsBeforeRegister : IndexedMeets (refusesInOrder contentsBeforeRegister) → ⊥
   pub lengthBeforeRegister : IndexedMeets (refusesInOrder lengthBeforeRegister) → ⊥
   pub trustsTheIndex : IndexedMeets (refusesInOrder trustsTheIndex) → ⊥
   pub refusesWhatIsBuilt : BuildsForTheJudge indexBuilt refusesEveryIndex → ⊥

@@ -132,9 +132,9 @@ never-first r call fails e = never (λ x. holds x call) r refusals fails e
 
 -- the index is the register's own; that it is so long follows
 module _ (call : Call) (index : List ℕ) where
-  plain : (long other : Bool) → ((r : Refusal) → holdsGiven long other r call ≡ false) → refusal call ≡ 0
+  plain : (wrongLength wrongContents : Bool) → ((r : Refusal) → holdsGiven wrongLength wrongContents r call ≡ false) → refusal call ≡ 0
   unfolding holdsGiven refusal
-  plain long other none = holds-none (λ r. holds r call) refusals each
+  plain wrongLength wrongContents none = holds-none (λ r. holds r call) refusals each
     where
       each : (r : Refusal) → holds r call ≡ false
       each Date = none Date
@@ -175,13 +175,13 @@ asked-clear false call index e = (clear-of call e, refl)
 
 -- ---- unless one of its two numbers is answered, an index changes no answer
 
-module _ (call : Call) (long other : Bool) where
+module _ (call : Call) (wrongLength wrongContents : Bool) where
   -- any condition but those two asks the same
   record OfIndex (r : Refusal) : Type 0 where
     plain : holds r call ≡ false
     number : (refusalNumber r ≡ refusalNumber IndexLength) ⊎ (refusalNumber r ≡ refusalNumber IndexContents)
 
-  same-test : (r : Refusal) → (holdsGiven long other r call ≡ holds r call) ⊎ OfIndex r
+  same-test : (r : Refusal) → (holdsGiven wrongLength wrongContents r call ≡ holds r call) ⊎ OfIndex r
   unfolding holdsGiven
   same-test Date = inl refl
   same-test Table = inl refl
@@ -198,7 +198,7 @@ module _ (call : Call) (long other : Bool) where
   same-test Space = inl refl
 
   abbrev given : List Refusal → ℕ
-  given rs = firstHolding (λ r. holdsGiven long other r call) rs
+  given rs = firstHolding (λ r. holdsGiven wrongLength wrongContents r call) rs
 
   abbrev AsPlain : ℕ → ℕ → Type 0
   AsPlain n m = (n ≡ refusalNumber IndexLength → ⊥) → (n ≡ refusalNumber IndexContents → ⊥) → n ≡ m
@@ -207,8 +207,8 @@ module _ (call : Call) (long other : Bool) where
   unfolding firstHolding
   as-plain [] a b = refl
   as-plain (r ∷ rs) a b = ⊎-elim
-      (λ (e : holdsGiven long other r call ≡ holds r call). rw e (by-test (holds r call) (as-plain rs) (rw e at a) (rw e at b)))
-      (λ (o : OfIndex r). rw (o .plain) (by-index o (holdsGiven long other r call) (as-plain rs) a b))
+      (λ (e : holdsGiven wrongLength wrongContents r call ≡ holds r call). rw e (by-test (holds r call) (as-plain rs) (rw e at a) (rw e at b)))
+      (λ (o : OfIndex r). rw (o .plain) (by-index o (holdsGiven wrongLength wrongContents r call) (as-plain rs) a b))
       (same-test r)
     where
       by-test : (t : Bool) → AsPlain (given rs) (firstHolding (λ x. holds x call) rs)

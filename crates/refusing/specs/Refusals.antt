@@ -56,19 +56,19 @@ contentsWrong index register = not (same index (indexOf register))
 
 -- whether a refusal's condition holds of a call, given whether its index has another length and whether it has other contents
 unfoldable pub holdsGiven : Bool → Bool → Refusal → Call → Bool
-holdsGiven long other Date call = not (isDate (call .terms .date))
-holdsGiven long other Table call = not (wellFormed (call .table))
-holdsGiven long other Positions call = not (fits (call .positions) (rows (call .table)))
-holdsGiven long other Register call = not (registerFormed (call .register))
-holdsGiven long other IndexLength call = long
-holdsGiven long other IndexContents call = other
-holdsGiven long other Sheet call = not (whole (call .sheet))
-holdsGiven long other Size call = ltb mostBulks (bulkCount (call .sheet)) || ltb mostMessages (messageCount (call .sheet))
-holdsGiven long other Kind call = not (kindsKnown (headersOf (call .sheet) (bulkCount (call .sheet))))
-holdsGiven long other Order call = mixed false (headersOf (call .sheet) (bulkCount (call .sheet)))
-holdsGiven long other Room call = ltb (free (call .register)) (bulkCount (call .sheet) + messageCount (call .sheet))
-holdsGiven long other Limit call = not (roomForAll (call .positions) (messageCount (call .sheet) * mostCents))
-holdsGiven long other Space call = ltb (length (call .report)) (reportLength (bulkCount (call .sheet)) (messageCount (call .sheet)))
+holdsGiven wrongLength wrongContents Date call = not (isDate (call .terms .date))
+holdsGiven wrongLength wrongContents Table call = not (wellFormed (call .table))
+holdsGiven wrongLength wrongContents Positions call = not (fits (call .positions) (rows (call .table)))
+holdsGiven wrongLength wrongContents Register call = not (registerFormed (call .register))
+holdsGiven wrongLength wrongContents IndexLength call = wrongLength
+holdsGiven wrongLength wrongContents IndexContents call = wrongContents
+holdsGiven wrongLength wrongContents Sheet call = not (whole (call .sheet))
+holdsGiven wrongLength wrongContents Size call = ltb mostBulks (bulkCount (call .sheet)) || ltb mostMessages (messageCount (call .sheet))
+holdsGiven wrongLength wrongContents Kind call = not (kindsKnown (headersOf (call .sheet) (bulkCount (call .sheet))))
+holdsGiven wrongLength wrongContents Order call = mixed false (headersOf (call .sheet) (bulkCount (call .sheet)))
+holdsGiven wrongLength wrongContents Room call = ltb (free (call .register)) (bulkCount (call .sheet) + messageCount (call .sheet))
+holdsGiven wrongLength wrongContents Limit call = not (roomForAll (call .positions) (messageCount (call .sheet) * mostCents))
+holdsGiven wrongLength wrongContents Space call = ltb (length (call .report)) (reportLength (bulkCount (call .sheet)) (messageCount (call .sheet)))
 
 -- of a call without an index, of which nothing is wrong
 abbrev pub holds : Refusal → Call → Bool

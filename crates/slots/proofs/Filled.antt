@@ -20,14 +20,14 @@ use Rattle.slots.proofs.Under.{Under, under-itself, under-set, under-tu
 -- ---- what a slot names
 
 -- the bound is no matter for a slot that holds no more than the lesser one
-pub stops-more : (keys : ℕ → List ℕ) (k m : ℕ) (looked : List ℕ) (x : ℕ) → k ≤ m → x ≤ k → stopsAt keys m looked x ≡ stopsAt keys k looked x
+stops-more : (keys : ℕ → List ℕ) (k m : ℕ) (looked : List ℕ) (x : ℕ) → k ≤ m → x ≤ k → stopsAt keys m looked x ≡ stopsAt keys k looked x
 unfolding stopsAt names
 stops-more keys k m looked x h l = rw (le-leb x k l, le-leb x m (omega arith))
 
 pub stops-zero : (keys : ℕ → List ℕ) (k : ℕ) (looked : List ℕ) → stopsAt keys k looked 0 ≡ true
 stops-zero keys k looked = stops-empty keys k looked 0 (names-none k)
 
-pub names-not : (k x : ℕ) → names k x ≡ false → x ≤ k → x ≡ 0
+names-not : (k x : ℕ) → names k x ≡ false → x ≤ k → x ≡ 0
 names-not k zero e h = refl
 names-not k (suc x) e h = absurd (false≢true (sym e ∙ names-true k (suc x) (λ z. omega arith) h))
 
@@ -73,12 +73,12 @@ module _ (number : List ℕ → ℕ) (keys : ℕ → List ℕ) (bound : ℕ) (lo
   unfolding endAfter
   searched-place = refl
 
-  pub searched-read : searched number keys bound looked xs .read ≡ min (steps number keys bound looked xs + 1) (length xs)
+  searched-read : searched number keys bound looked xs .read ≡ min (steps number keys bound looked xs + 1) (length xs)
   unfolding endAfter
   searched-read = refl
 
   -- only slots that are taken are passed
-  pub steps-taken : steps number keys bound looked xs ≤ taken xs
+  steps-taken : steps number keys bound looked xs ≤ taken xs
   steps-taken = omega (arith, taken-turned (origin number looked xs) xs, passed-taken (stopsAt keys bound looked) (stops-zero keys bound looked) (turned (origin number looked xs) xs))
 
   pub place-inside : steps number keys bound looked xs < length xs → searched number keys bound looked xs .place < length xs
@@ -116,7 +116,7 @@ pub searched-same : (number : List ℕ → ℕ) (keys other : ℕ → List ℕ) 
 searched-same number keys other bound looked xs agree =
     ap (λ (stops : ℕ → Bool). endAfter (origin number looked xs) xs (passed stops (turned (origin number looked xs) xs))) (fun-ext (stops-same keys other bound looked agree))
 
-pub built-same : (number : List ℕ → ℕ) (keys other : ℕ → List ℕ) (n k : ℕ) → ((j : ℕ) → j < k → keys j ≡ other j) → builtTo number keys n k ≡ builtTo number other n k
+built-same : (number : List ℕ → ℕ) (keys other : ℕ → List ℕ) (n k : ℕ) → ((j : ℕ) → j < k → keys j ≡ other j) → builtTo number keys n k ≡ builtTo number other n k
 unfolding builtTo
 built-same number keys other n zero agree = refl
 built-same number keys other n (suc k) agree =
@@ -173,7 +173,7 @@ module _ (number : List ℕ → ℕ) (keys : ℕ → List ℕ) (n : ℕ) where
         (set-hit (stopsAt keys k (keys k)) (stops-zero keys k (keys k)) (stopsAt keys (suc k) (keys k)) k (λ x l. stops-more keys k (suc k) (keys k) x (omega arith) l) (k + 1) new
         (turned s xs) (most-turned s k xs low (f .most)) (rw (turned-length s xs low) steps-inside)))
 
-    pub filled-more : Filled (suc k) (placed (searched number keys k (keys k) xs) k xs)
+    filled-more : Filled (suc k) (placed (searched number keys k (keys k) xs) k xs)
     filled-more = by-test (names k (searched number keys k (keys k) xs .name)) refl
       where
         by-test : (t : Bool) → names k (searched number keys k (keys k) xs .name) ≡ t → Filled (suc k) (cond t xs (set xs (searched number keys k (keys k) xs .place) (k + 1)))

@@ -18,14 +18,14 @@ use Rattle.slots.proofs.Turns.{added-length}
 -- ---- a record added
 
 module _ (e : End) (k : ℕ) (index : List ℕ) where
-  pub added-bytes : Bytes index → Bytes (added e k index)
+  added-bytes : Bytes index → Bytes (added e k index)
   added-bytes b = by-test (names k (e .name))
     where
       by-test : (t : Bool) → Bytes (cond t index (put index (e .place) (k + 1)))
       by-test true = b
       by-test false = sets-bytes index (slotWidth * e .place) (bytesOf slotWidth (k + 1)) b (written-bytes slotWidth (k + 1))
 
-  pub added-slots : k + 1 < 256 ^ 4 → slotsOf (added e k index) ≡ placed e k (slotsOf index)
+  added-slots : k + 1 < 256 ^ 4 → slotsOf (added e k index) ≡ placed e k (slotsOf index)
   added-slots fits = by-test (names k (e .name))
     where
       by-test : (t : Bool) → slotsOf (cond t index (put index (e .place) (k + 1))) ≡ cond t (slotsOf index) (set (slotsOf index) (e .place) (k + 1))
@@ -60,7 +60,7 @@ module _ (layout : Layout) (records : List ℕ) (bytes : ℕ) where
         let last : End = searchedIn layout records k (keyIn layout records k) (builtIn layout records bytes k) in
         added-slots last k (builtIn layout records bytes k) (omega arith) ∙ (rw before)
 
-    pub filled-built : (k : ℕ) → k ≤ n → Filled digits (keyIn layout records) n k (slotsOf (builtIn layout records bytes k))
+    filled-built : (k : ℕ) → k ≤ n → Filled digits (keyIn layout records) n k (slotsOf (builtIn layout records bytes k))
     filled-built k h = rw (built-slots k h) (built-filled digits (keyIn layout records) n k h)
 
     -- each of them is found, at most k + 1 slots are read
@@ -83,11 +83,11 @@ stored-reads layout records bound looked index = omega (arith, slots-many index,
 -- ---- records with the same keys
 
 module _ (layout : Layout) (r q : List ℕ) where
-  pub searched-agree : (bound : ℕ) (looked index : List ℕ) → ((j : ℕ) → j < bound → keyIn layout r j ≡ keyIn layout q j)
+  searched-agree : (bound : ℕ) (looked index : List ℕ) → ((j : ℕ) → j < bound → keyIn layout r j ≡ keyIn layout q j)
       → searchedIn layout r bound looked index ≡ searchedIn layout q bound looked index
   searched-agree bound looked index = searched-same digits (keyIn layout r) (keyIn layout q) bound looked (slotsOf index)
 
-  pub built-agree : (bytes k : ℕ) → ((j : ℕ) → j < k → keyIn layout r j ≡ keyIn layout q j) → builtIn layout r bytes k ≡ builtIn layout q bytes k
+  built-agree : (bytes k : ℕ) → ((j : ℕ) → j < k → keyIn layout r j ≡ keyIn layout q j) → builtIn layout r bytes k ≡ builtIn layout q bytes k
   unfolding builtIn
   built-agree bytes zero agree = refl
   built-agree bytes (suc k) agree =

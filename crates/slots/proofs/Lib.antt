@@ -4,7 +4,7 @@ mod Starts
 mod Searches
 mod Turns
 mod Under
-pub mod Filled
+mod Filled
 mod Masks
 mod Checks
 pub mod Laws

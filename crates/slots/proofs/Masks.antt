@@ -27,7 +27,7 @@ seen-low k x h = rw (le-leb x k h)
 pub seen-high : (k x : ℕ) → k < x → seen k x ≡ 0
 seen-high k x h = rw (lt-leb x k h)
 
-pub seen-zero : (k : ℕ) → seen k 0 ≡ 0
+seen-zero : (k : ℕ) → seen k 0 ≡ 0
 seen-zero k = seen-low k 0 (omega arith)
 
 -- a name that is seen is there

@@ -21,12 +21,12 @@ use Rattle.slots.specs.Stored.{slotWidth, mostSlots, slotCount, slotAt, 
 -- ---- runs of slots
 
 module _ (index : List ℕ) where
-  pub slots-length : (n i : ℕ) → length (slotsFrom index n i) ≡ n
+  slots-length : (n i : ℕ) → length (slotsFrom index n i) ≡ n
   unfolding slotsFrom
   slots-length zero i = refl
   slots-length (suc n) i = ap suc (slots-length n (suc i))
 
-  pub slots-get : (n i j : ℕ) → j < n → getD (slotsFrom index n i) j 0 ≡ slotAt index (i + j)
+  slots-get : (n i j : ℕ) → j < n → getD (slotsFrom index n i) j 0 ≡ slotAt index (i + j)
   unfolding slotsFrom
   slots-get zero i j h = absurd (omega arith)
   slots-get (suc n) i zero h = ap (slotAt index) (sym (add-zero i))

@@ -131,18 +131,18 @@ abbrev pub Most : ℕ → List ℕ → Type 0
 Most k ts = (i : ℕ) → getD ts i 0 ≤ k
 
 module _ (stops : ℕ → Bool) (x : ℕ) (xs : List ℕ) where
-  pub passed-here : stops x ≡ true → passed stops (x ∷ xs) ≡ 0
+  passed-here : stops x ≡ true → passed stops (x ∷ xs) ≡ 0
   unfolding passed
   passed-here e = rw e
 
-  pub passed-on : stops x ≡ false → passed stops (x ∷ xs) ≡ suc (passed stops xs)
+  passed-on : stops x ≡ false → passed stops (x ∷ xs) ≡ suc (passed stops xs)
   unfolding passed
   passed-on e = rw e
 
-  pub hit-here : stops x ≡ true → hit stops (x ∷ xs) ≡ x
+  hit-here : stops x ≡ true → hit stops (x ∷ xs) ≡ x
   hit-here e = rw (passed-here e)
 
-  pub hit-on : stops x ≡ false → hit stops (x ∷ xs) ≡ hit stops xs
+  hit-on : stops x ≡ false → hit stops (x ∷ xs) ≡ hit stops xs
   hit-on e = rw (passed-on e)
 
 -- if the test holds of what is none too, it holds of what is hit

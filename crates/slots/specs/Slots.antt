@@ -10,7 +10,7 @@ use Rattle.wire.specs.Field.{same}
 
 -- ---- the order in which slots are read
 
--- the slot, of n, at which the search of a key starts that comes to v; of none, 0
+-- where among n slots a key begins that comes to v; 0 if there are none
 unfoldable pub startAt : ℕ → ℕ → ℕ
 startAt v zero = 0
 startAt v (suc n) = v % suc n
@@ -19,11 +19,11 @@ startAt v (suc n) = v % suc n
 abbrev pub turned : ℕ → List ℕ → List ℕ
 turned s xs = drop s xs ++ take s xs
 
--- the slot that comes after p others from slot s on, of n; after all n there is none, which is told as n
+-- of n slots, the one that is looked at when p were, beginning with slot s; n stands for none, when all were
 unfoldable pub placeAfter : ℕ → ℕ → ℕ → ℕ
 placeAfter s p n = cond (ltb p n) (cond (ltb (s + p) n) (s + p) (s + p - n)) n
 
--- how many slots are passed before the first at which a test holds
+-- the slots in front of the first that a test picks out; all of them if it picks none
 unfoldable pub passed : (ℕ → Bool) → List ℕ → ℕ
 passed stops [] = 0
 passed stops (x ∷ xs) = cond (stops x) 0 (suc (passed stops xs))
@@ -34,7 +34,7 @@ passed stops (x ∷ xs) = cond (stops x) 0 (suc (passed stops xs))
 unfoldable pub names : ℕ → ℕ → Bool
 names bound x = not (eqb x 0) && leb x bound
 
--- how a search ended: at which slot, what that slot holds, and how many slots were read, the last one too
+-- the end of a search: the slot, its content, and the number of slots that were looked at, this one among them
 pub record End : Type 0 where
   pub place : ℕ
   pub name : ℕ
@@ -53,7 +53,7 @@ searched number keys bound looked xs =
 
 -- ---- the keys added in order
 
--- key k is named at the slot at which its search among those before it ended, unless that found one
+-- key k, once it was looked for among those before it: the slot where that came to its end now names it, if it was not there
 abbrev pub placed : End → ℕ → List ℕ → List ℕ
 placed e k xs = cond (names k (e .name)) xs (set xs (e .place) (k + 1))
 

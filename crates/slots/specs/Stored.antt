@@ -35,7 +35,7 @@ slotCount index = min (length index / slotWidth) mostSlots
 abbrev pub slotAt : List ℕ → ℕ → ℕ
 slotAt index i = numberAt index (slotWidth * i) slotWidth
 
--- the n slots from slot i on
+-- n slots in a row, slot i the first
 unfoldable pub slotsFrom : List ℕ → ℕ → ℕ → List ℕ
 slotsFrom index zero i = []
 slotsFrom index (suc n) i = slotAt index i ∷ slotsFrom index n (suc i)
@@ -56,7 +56,7 @@ keyIn layout records k = part records (layout .first + layout .stride * k) (layo
 abbrev pub searchedIn : Layout → List ℕ → ℕ → List ℕ → List ℕ → End
 searchedIn layout records bound looked index = searched digits (keyIn layout records) bound looked (slotsOf index)
 
--- record k named where the search of its key ended
+-- record k, once its key was looked for
 abbrev pub added : End → ℕ → List ℕ → List ℕ
 added e k index = cond (names k (e .name)) index (put index (e .place) (k + 1))
 

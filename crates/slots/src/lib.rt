@@ -8,10 +8,17 @@ ghost use Rattle.slots.specs.Slots.{startAt, names, passed, stopsAt};
 ghost use Rattle.slots.specs.Stored.{digits, slotWidth, mostSlots, slotCount, slotAt, slotsFrom, slotsOf, keyIn, searchedIn, added, builtIn};
 ghost use Rattle.slots.specs.Asked.{Within, Sized, endOf, taken};
 
-const SLOT_WIDTH: usize = 4;
+pub const SLOT_WIDTH: usize = 4;
 
 // So that four digits of a key and a remainder fit 64 bits.
 const MOST_SLOTS: usize = 2147483648;
+
+// What a byte of a key weighs more than the next, and what two and four of them do.
+const BASE: u64 = 257;
+
+const SQUARE: u64 = BASE * BASE;
+
+const FOURTH: u64 = SQUARE * SQUARE;
 
 // Where the keys of records stand: one every `stride` bytes from `first` on, each of `width` bytes.
 pub struct Layout {
@@ -20,7 +27,7 @@ pub struct Layout {
     pub width: u32,
 }
 
-// How a search ended: at which slot, what that slot holds, and how many slots were read.
+// The end of a search: the slot, its content, and the number of slots that were looked at.
 pub struct Ended {
     pub place: u32,
     pub name: u32,
@@ -39,7 +46,7 @@ fn slot_count(index: &[u8]) -> u32
     wire::least(index.len() / SLOT_WIDTH, MOST_SLOTS) as u32
 }
 
-// What a slot holds, in one step of the processor.
+// The content of a slot. The compiler makes one load of it.
 fn slot_at(index: &[u8], at: u32) -> u32
     requires { ⌜ slotWidth * at + slotWidth ≤ length (now index) ⌝ }
     ensures { λ r. ⌜ r ≡ slotAt (now (index .entry)) at ⌝ }
@@ -60,7 +67,7 @@ fn key_in(layout: Layout, records: &[u8], k: u32) -> &[u8]
     &records[at..end]
 }
 
-// The slot, of n, at which the search of a key starts: four digits to a remainder.
+// Which of n slots a key's search looks at first. Four digits are taken in before each remainder.
 fn start(key: &[u8], n: u32) -> u32
     requires { ⌜ n ≤ mostSlots ⌝ }
     ensures { λ r. ⌜ r ≡ startAt (digits (now (key .entry))) n ⌝ }
@@ -72,13 +79,13 @@ fn start(key: &[u8], n: u32) -> u32
     let mut v: u64 = 0;
     let mut i = 0;
     while 4 <= key.len() - i {
-        let high = wide(key[i]) * 257 + wide(key[i + 1]);
-        let low = wide(key[i + 2]) * 257 + wide(key[i + 3]);
-        v = (v * 4362470401 + high * 66049 + low) % m;
+        let high = wide(key[i]) * BASE + wide(key[i + 1]);
+        let low = wide(key[i + 2]) * BASE + wide(key[i + 3]);
+        v = (v * FOURTH + high * SQUARE + low) % m;
         i += 4;
     }
     while i < key.len() {
-        v = (v * 257 + wide(key[i])) % m;
+        v = (v * BASE + wide(key[i])) % m;
         i += 1;
     }
     v as u32
@@ -101,7 +108,7 @@ fn stops_at(layout: Layout, records: &[u8], bound: u32, looked: &[u8], name: u32
     texts::same(key_in(layout, records, name - 1), looked)
 }
 
-// The first of the slots from one place up to another at which a search stops, or that other place.
+// Looks at slots from `from` on, and tells where the search stops; `to` if it does not before that.
 fn scan(
     layout: Layout,
     records: &[u8],
@@ -124,7 +131,7 @@ fn scan(
     at
 }
 
-// The search of a key among the first `bound` records: from its start forward, then round the end.
+// Looks for a key among the first `bound` records: up to the last slot, then from the first. Any index will do; the records have to reach.
 pub fn search(layout: Layout, records: &[u8], bound: u32, looked: &[u8], index: &[u8]) -> Ended
     requires { ⌜ Within layout (now records) bound ⌝ }
     ensures { λ r. ⌜ endOf r ≡ searchedIn layout (now (records .entry)) bound (now (looked .entry)) (now (index .entry)) ⌝ }

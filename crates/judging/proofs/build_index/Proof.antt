@@ -1,5 +1,5 @@
 -- `judging::build_index` meets its contract. Assumes nothing.
-use Rattle.judging.proofs.Indices.{unformed-told, short-told, built-told, build-ready}
+use Rattle.judging.proofs.Indices.{unformed-told, other-length-told, built-told, build-ready}
 use borrow.Author.Needs.{needs}
 use borrow.Author.Tests.{not-true, not-false}
 use Rattle.judging.proofs.build_index.Statement.{statement}
@@ -18,7 +18,7 @@ returns c =
 returns-2 : tie.Need-returns-2
 returns-2 c =
     let a = c .before .before .before .before .before .before .args in
-    short-told (a .register .now) (a .index .now) _ _ (c .before .before .before .well-formed .ensures) (not-false _ (c .before .before .if1 .left)) (c .before .length-for .ensures) (c .if2 .taken)
+    other-length-told (a .register .now) (a .index .now) _ _ (c .before .before .before .well-formed .ensures) (not-false _ (c .before .before .if1 .left)) (c .before .length-for .ensures) (c .if2 .taken)
 
 returns-3 : tie.Need-returns-3
 returns-3 c =

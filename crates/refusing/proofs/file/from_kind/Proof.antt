@@ -1,4 +1,4 @@
--- `refusing::from_kind` meets its contract: where its condition holds that is the answer, else what the conditions after it come to.
+-- `refusing::file::from_kind` meets its contract: where its condition holds that is the answer, else what the conditions after it come to.
 -- Assumes nothing.
 use mathlib.Core.Path.{refl, _∙_}
 use mathlib.Core.Bool.{true, false}
@@ -7,8 +7,8 @@ use Rattle.refusing.specs.Refusals.{holdsGiven}
 use Rattle.refusing.specs.declared.Refusal.the-variants.{Kind, Order}
 use Rattle.refusing.proofs.Checking.{stops, goes-on, not-good, header-room}
 use borrow.Author.Needs.{needs}
-use Rattle.refusing.proofs.from_kind.Statement.{statement}
-use Rattle.refusing.proofs.from_kind.Tie as tie
+use Rattle.refusing.proofs.file.from_kind.Statement.{statement}
+use Rattle.refusing.proofs.file.from_kind.Tie as tie
 
 kinds-known-requires : tie.Need-kinds-known-requires
 kinds-known-requires c κs = header-room _ _ (c .before .before .before .before .before .pre .measured)

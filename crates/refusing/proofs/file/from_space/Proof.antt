@@ -1,4 +1,4 @@
--- `refusing::from_space` meets its contract: where its condition holds that is the answer, else what the conditions after it come to.
+-- `refusing::file::from_space` meets its contract: where its condition holds that is the answer, else what the conditions after it come to.
 -- Assumes nothing.
 use mathlib.Core.Path.{refl}
 use borrow.Author.Tests.{lt-ltb, le-ltb}
@@ -6,8 +6,8 @@ use Rattle.refusing.specs.Refusals.{holdsGiven}
 use Rattle.refusing.specs.declared.Refusal.the-variants.{Space}
 use Rattle.refusing.proofs.Checking.{stops, passes}
 use borrow.Author.Needs.{needs}
-use Rattle.refusing.proofs.from_space.Statement.{statement}
-use Rattle.refusing.proofs.from_space.Tie as tie
+use Rattle.refusing.proofs.file.from_space.Statement.{statement}
+use Rattle.refusing.proofs.file.from_space.Tie as tie
 
 returns : tie.Need-returns
 unfolding holdsGiven

@@ -1,4 +1,4 @@
--- `refusing::from_limit` meets its contract: where its condition holds that is the answer, else what the conditions after it come to.
+-- `refusing::file::from_limit` meets its contract: where its condition holds that is the answer, else what the conditions after it come to.
 -- Assumes nothing.
 use mathlib.Core.Path.{refl, _∙_}
 use mathlib.Core.Bool.{true, false}
@@ -9,8 +9,8 @@ use Rattle.refusing.specs.Refusals.{holdsGiven}
 use Rattle.refusing.specs.declared.Refusal.the-variants.{Limit, Space}
 use Rattle.refusing.proofs.Checking.{stops, goes-on, not-good}
 use borrow.Author.Needs.{needs}
-use Rattle.refusing.proofs.from_limit.Statement.{statement}
-use Rattle.refusing.proofs.from_limit.Tie as tie
+use Rattle.refusing.proofs.file.from_limit.Statement.{statement}
+use Rattle.refusing.proofs.file.from_limit.Tie as tie
 
 returns : tie.Need-returns
 unfolding holdsGiven

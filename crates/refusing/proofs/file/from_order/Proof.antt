@@ -1,4 +1,4 @@
--- `refusing::from_order` meets its contract: where its condition holds that is the answer, else what the conditions after it come to.
+-- `refusing::file::from_order` meets its contract: where its condition holds that is the answer, else what the conditions after it come to.
 -- Assumes nothing.
 use mathlib.Core.Path.{refl, sym, _∙_}
 use mathlib.Core.Bool.{false}
@@ -7,8 +7,8 @@ use Rattle.refusing.specs.Refusals.{holdsGiven}
 use Rattle.refusing.specs.declared.Refusal.the-variants.{Order, Room}
 use Rattle.refusing.proofs.Checking.{stops, goes-on, header-room}
 use borrow.Author.Needs.{needs}
-use Rattle.refusing.proofs.from_order.Statement.{statement}
-use Rattle.refusing.proofs.from_order.Tie as tie
+use Rattle.refusing.proofs.file.from_order.Statement.{statement}
+use Rattle.refusing.proofs.file.from_order.Tie as tie
 
 kinds-mixed-requires : tie.Need-kinds-mixed-requires
 kinds-mixed-requires c κs = header-room _ _ (c .before .before .before .before .before .pre .measured)

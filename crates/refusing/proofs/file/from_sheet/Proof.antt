@@ -1,4 +1,4 @@
--- `refusing::from_sheet` meets its contract: where its condition holds that is the answer, else what the conditions after it come to.
+-- `refusing::file::from_sheet` meets its contract: where its condition holds that is the answer, else what the conditions after it come to.
 -- Assumes nothing.
 use mathlib.Core.Path.{refl, sym, ap, _∙_}
 use mathlib.Core.Bool.{not}
@@ -8,8 +8,8 @@ use Rattle.refusing.specs.Refusals.{holdsGiven}
 use Rattle.refusing.specs.declared.Refusal.the-variants.{Sheet, Size}
 use Rattle.refusing.proofs.Checking.{stops, goes-on, measured-told}
 use borrow.Author.Needs.{needs}
-use Rattle.refusing.proofs.from_sheet.Statement.{statement}
-use Rattle.refusing.proofs.from_sheet.Tie as tie
+use Rattle.refusing.proofs.file.from_sheet.Statement.{statement}
+use Rattle.refusing.proofs.file.from_sheet.Tie as tie
 
 from-size-requires : tie.Need-from-size-requires
 from-size-requires c κs = measured-told _ _ _ (sym (c .before .before .before .measure .ensures) ∙ ap shapeOf (c .before .shape .given .1))

@@ -1,4 +1,4 @@
--- `refusing::from_size` meets its contract: where its condition holds that is the answer, else what the conditions after it come to.
+-- `refusing::file::from_size` meets its contract: where its condition holds that is the answer, else what the conditions after it come to.
 -- Assumes nothing.
 use mathlib.Core.Path.{refl, sym, _∙_}
 use mathlib.Core.Bool.{_||_}
@@ -7,8 +7,8 @@ use Rattle.refusing.specs.Refusals.{mostBulks, mostMessages}
 use Rattle.refusing.specs.Refusals.{holdsGiven}
 use Rattle.refusing.specs.declared.Refusal.the-variants.{Size, Kind}
 use Rattle.refusing.proofs.Checking.{stops, goes-on, few-told}
-use Rattle.refusing.proofs.from_size.Statement.{statement}
-use Rattle.refusing.proofs.from_size.Tie as tie
+use Rattle.refusing.proofs.file.from_size.Statement.{statement}
+use Rattle.refusing.proofs.file.from_size.Tie as tie
 
 from-kind-requires : tie.Need-from-kind-requires
 from-kind-requires c κs = few-told _ _ (c .before .before .before .before .before .before .before .before .pre) (c .if1 .left)
