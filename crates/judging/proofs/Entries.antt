@@ -3,7 +3,6 @@ use mathlib.Core.Path.{_≡_, ap}
 use mathlib.Core.Bool.{Bool, true, false, cond}
 use mathlib.Core.List.{List, [], _∷_, _++_}
 use Prim.Native.Nat.{ℕ, suc, _+_, _*_, _≤_}
-use native.Mathlib.Nat.{add-zero}
 use native.Mathlib.Omega.{arith}
 use lib.Dec.{eqb}
 use lib.ListN.{length, length-append}
@@ -121,7 +120,3 @@ module _ (terms : Terms) (table : List ℕ) where
       let most = reads-fit indexed (searches terms table bs before) in
       let few = searches-few bs before in
       omega arith
-
-pub count-one : (b : Bulk) → countMessages (b ∷ []) ≡ length (b .messages)
-unfolding countMessages
-count-one b = add-zero (length (b .messages))

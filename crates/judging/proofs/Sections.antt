@@ -1,7 +1,7 @@
 -- One bulk's line, section and state, from what the calls that made them told. Assumes nothing.
 use mathlib.Core.Path.{_≡_, refl, sym, ap, _∙_}
 use mathlib.Core.Bool.{Bool, true, false, cond, not}
-use mathlib.Core.List.{List, [], _∷_, _++_}
+use mathlib.Core.List.{List, _++_}
 use Prim.Native.Nat.{ℕ, _+_, _-_, _*_, _^_, _≤_, _<_}
 use native.Mathlib.Nat.{add-zero}
 use native.Mathlib.Omega.{arith}
@@ -15,7 +15,7 @@ use Rattle.wire.proofs.Stores.{sets-then}
 use Rattle.routing.specs.Lookup.{optionOf, headOfficeRow}
 use Rattle.routing.specs.Promise.{RowTold}
 use Rattle.routing.specs.declared.Found.{Found}
-use Rattle.sheet.specs.Sheet.{messageWidth, senderOf, bulkIdentifierOf, Bulk, countMessages}
+use Rattle.sheet.specs.Sheet.{messageWidth, senderOf, bulkIdentifierOf, Bulk}
 use Rattle.sheet.specs.Reading.{headerIn}
 use Rattle.sheet.specs.declared.Header.{Header}
 use Rattle.sheet.specs.declared.Section.{Section}
@@ -30,7 +30,7 @@ use Rattle.index.specs.Index.{endIn}
 use Rattle.index.specs.Searches.{slotsRead, slotsReadBy}
 use Rattle.index.specs.Ready.{indexBy, nowhere, Ready, SoughtTold, EnteredAnew}
 use Rattle.index.specs.declared.Sought.{Sought}
-use Rattle.index.proofs.Ways.{index-then, index-own, read-of}
+use Rattle.index.proofs.Ways.{index-then, index-own, read-of, reads-fit}
 use Rattle.rules.specs.declared.Terms.{Terms}
 use Rattle.faults.specs.Faults.{senderRow, bulkFactsGiven, bulkFaults}
 use Rattle.faults.specs.Asked.{BulkAsked}
@@ -39,13 +39,14 @@ use Rattle.tally.specs.Room.{mostCounted}
 use Rattle.report.specs.Line.{countWidth, bulkLine, bulkLineWidth, linesAt, messageLineWidth}
 use Rattle.report.specs.declared.Places.{Places}
 use Rattle.messages.specs.Messages.{State, judgeMessages, sumOf}
+use Rattle.messages.specs.Searches.{messageSearches}
 use Rattle.messages.specs.Ready.{stateOf, messagesOf, RulingReady, MessagesTold}
 use Rattle.messages.specs.declared.Counts.{Counts}
-use Rattle.messages.proofs.Walks.{messages-spare}
+use Rattle.messages.proofs.Walks.{messages-spare, searches-length}
 use Rattle.judging.specs.Judgement.{bulkOutcome, faultsOfBulk, falls, messagesJudged, bulkLineOf, sectionOf, afterBulk}
 use Rattle.judging.specs.Searches.{bulkSearch, searchAgain, bulkSearches}
 use Rattle.judging.specs.Ready.{bulkIn, HeaderReady, BulkSpace, BulkTold, RecordTold}
-use Rattle.judging.proofs.Entries.{bulk-slots, slots-split, slots-few, count-one}
+use Rattle.judging.proofs.Entries.{bulk-slots}
 
 -- ---- outcomes
 
@@ -123,6 +124,16 @@ module _ (indexed : Bool) (register index : List ℕ) (n : ℕ) (ready : Ready i
             (messages-spare terms table header fallen messages (stateOf register positions) 1 (rw many (ready .spare)));
         kept = index-own index index' register' indexed (told .kept ∙ (rw (told .register)));
       }
+
+-- what a bulk's messages read is far from passing 64 bits
+pub slots-small : (terms : Terms) (table header : List ℕ) (fallen indexed : Bool) (sheet : List ℕ) (kind : ℕ) (section : Section) (before : State) (index out register' index' positions' out' : List ℕ) (counts : Counts)
+    → section .number ≤ mostCounted → MessagesTold terms table header fallen indexed (messagesOf sheet kind section) before index out register' index' positions' out' counts
+    → counts .slots < 2 ^ 63
+slots-small terms table header fallen indexed sheet kind section before index out register' index' positions' out' counts few told =
+    let most = reads-fit indexed (messageSearches terms table header fallen (messagesOf sheet kind section) before) in
+    let many = searches-length terms table header fallen indexed (messagesOf sheet kind section) before in
+    let held = records-length (messageWidth kind) sheet (section .number) (section .at) in
+    omega (arith, most, many, held, told .slots)
 
 -- ---- the places in the report
 
@@ -208,18 +219,10 @@ module _ (terms : Terms) (table sheet : List ℕ) (indexed : Bool) (header : Hea
         ∙ ap (λ (k : List ℕ). cond indexed (endIn (before .register) k) nowhere .read) key-is
         ∙ read-of indexed (bulkSearch (headerIn sheet header) before)
 
-    read-is : sought .ended .read + counts .slots + again ≡ slotsReadBy indexed (bulkSearches terms table bulk before)
+    read-is : counts .slots + (sought .ended .read + again) ≡ slotsReadBy indexed (bulkSearches terms table bulk before)
     read-is =
         let all = bulk-slots terms table indexed bulk before in
         omega (arith, all, first-is, judged .slots, again-is)
-
-    pub read-fits : section .number ≤ mostCounted → sought .ended .read + counts .slots + again < 2 ^ 64
-    read-fits few =
-        let one = slots-few terms table indexed (bulk ∷ []) before in
-        let split = slots-split terms table indexed bulk [] before in
-        let many = records-length (messageWidth (header .kind)) sheet (section .number) (section .at) in
-        let count : countMessages (bulk ∷ []) ≡ section .number = (rw (count-one bulk, many)) in
-        omega (arith, one, split, read-is, count)
 
     module _ (report₁ report₂ report₃ : List ℕ) (outcome : ℕ)
         (counted : report₁ ≡ sets report (places .section) (bytesOf countWidth (section .number)))
@@ -242,7 +245,7 @@ module _ (terms : Terms) (table sheet : List ℕ) (indexed : Bool) (header : Hea
           ∙ ap (λ (t : Totals). bulkLine identifier (bulkOutcome (not (eqb faults 0)) t) faults t) (judged .totals)
           ∙ (rw (faults-are, ei))
 
-      pub bulk-told : BulkTold terms table indexed bulk before index report places register₂ index₂ positions₁ report₃ (sought .ended .read + counts .slots + again)
+      pub bulk-told : BulkTold terms table indexed bulk before index report places register₂ index₂ positions₁ report₃ (counts .slots + (sought .ended .read + again))
       bulk-told =
           record {
             register = recorded .recorded ∙ new-is;

@@ -121,7 +121,7 @@ fn judge_bulk(
     );
     let again = record_bulk(indexed, register, index, &key, tally.accepted.number.0);
     let ended = sought.ended;
-    ended.read as u64 + counts.slots + again as u64
+    counts.slots + (ended.read as u64 + again as u64)
 }
 
 // Judges all bulks of a whole sheet. The report's count is written before. The slots that were read for them.

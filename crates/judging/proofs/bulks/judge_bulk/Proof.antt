@@ -13,7 +13,7 @@ use Rattle.tally.specs.Tally.{centsOf}
 use Rattle.report.specs.Line.{linesAt}
 use Rattle.messages.specs.Messages.{judgeMessages}
 use Rattle.messages.specs.Ready.{stateOf, messagesOf}
-use Rattle.judging.proofs.Sections.{bulk-asked, ruling-ready, bulk-parts, key-wide, ready-for, ready-after, place-there, lent-within, lent-space, line-within, read-fits, bulk-told}
+use Rattle.judging.proofs.Sections.{bulk-asked, ruling-ready, bulk-parts, key-wide, ready-for, ready-after, place-there, lent-within, lent-space, line-within, slots-small, bulk-told}
 use borrow.Author.Needs.{needs}
 use Rattle.judging.proofs.bulks.judge_bulk.Statement.{statement}
 use Rattle.judging.proofs.bulks.judge_bulk.Tie as tie
@@ -96,24 +96,12 @@ record-bulk-requires c κs =
       wide = key-wide (a .terms) (a .sheet .now) (a .table .now) (a .positions .now) (a .header) (start .pre .0) _ _ _ (c .before .before .before .before .before .before .before .before .before .before .before .before .before .before .before .before .before .before .before .before .before .before .before .before .before .before .before .before .before .before .before .before .before .before .before .before .sender .ensures) (c .before .before .before .before .before .before .before .before .before .before .before .before .before .before .before .before .before .before .before .before .before .before .before .before .before .before .before .before .before .before .before .before .before .before .before .identifier .ensures) (c .before .before .before .before .before .before .before .before .before .before .before .before .before .before .before .before .before .before .before .before .before .before .before .before .before .before .before .before .before .before .before .before .before .before .key-of .ensures);
     }
 
-add-result : tie.Need-add-result
-add-result c =
-    let start = c .before .before .before .before .before .before .before .before .before .before .before .before .before .before .before .before .before .before .before .before .before .before .before .before .before .before .before .before .before .before .before .before .before .before .before .before .before .before .before .before .before .before .before .before .before .before .before .before .before .before .before in
-    let a = start .args in
-    let all = read-fits (a .terms) (a .table .now) (a .sheet .now) (a .indexed) (a .header) (a .section) (stateOf (a .register .now) (a .positions .now)) (a .index .now) (a .report .now) (a .places)
-    _ _ _ (c .before .before .before .before .before .before .before .before .before .before .before .before .before .before .before .before .before .before .before .before .before .before .before .before .before .before .before .before .before .before .before .before .before .before .before .before .before .before .before .before .before .before .before .before .sender .ensures) (c .before .before .before .before .before .before .before .before .before .before .before .before .before .before .before .before .before .before .before .before .before .before .before .before .before .before .before .before .before .before .before .before .before .before .before .before .before .before .before .before .before .before .before .identifier .ensures) (c .before .before .before .before .before .before .before .before .before .before .before .before .before .before .before .before .before .before .before .before .before .before .before .before .before .before .before .before .before .before .before .before .before .before .before .before .before .before .before .before .before .before .key-of .ensures) (c .before .before .before .before .before .before .before .before .before .before .before .before .before .before .before .before .before .before .before .before .before .before .before .before .before .before .before .before .before .before .before .before .before .before .before .before .before .before .seek .result) (c .before .before .before .before .before .before .before .before .before .before .before .before .before .before .before .before .before .before .before .before .before .before .before .before .before .before .before .before .before .before .before .before .before .before .before .before .before .before .seek .ensures) _ (centsOf (c .before .before .before .before .before .before .before .before .before .before .before .before .before .before .before .before .before .before .before .before .before .before .before .before .before .before .before .before .before .before .before .before .before .before .before .before .sum-of .result)) (c .before .before .before .before .before .before .before .before .before .before .before .before .before .before .before .before .before .before .before .before .before .before .before .before .before .before .before .before .before .before .before .before .before .before .before .before .sum-of .ensures) (c .before .before .before .before .before .before .before .before .before .before .before .before .before .before .before .before .before .before .before .before .before .before .before .before .before .before .before .before .before .before .before .before .before .before .before .bulk-faults .ensures)
-    (c .before .before .before .before .before .before .before .before .before .before .before .before .before .before .before .before .before .before .before .before .before .before .before .before .before .judge-messages .result) _ _ _ _ _ (c .before .before .before .before .before .before .before .before .before .before .before .before .before .before .before .before .before .before .before .before .before .before .before .before .before .judge-messages .ensures) _ _ _ (c .before .before .before .before .before .before .before .record-bulk .ensures) (start .pre .1 .few) in
-    record { fits = omega (arith, all) }
-
 add-result-2 : tie.Need-add-result-2
 add-result-2 c =
     let start = c .before .before .before .before .before .before .before .before .before .before .before .before .before .before .before .before .before .before .before .before .before .before .before .before .before .before .before .before .before .before .before .before .before .before .before .before .before .before .before .before .before .before .before .before .before .before .before .before .before .before .before in
     let a = start .args in
-    record {
-      fits = read-fits (a .terms) (a .table .now) (a .sheet .now) (a .indexed) (a .header) (a .section) (stateOf (a .register .now) (a .positions .now)) (a .index .now) (a .report .now) (a .places)
-          _ _ _ (c .before .before .before .before .before .before .before .before .before .before .before .before .before .before .before .before .before .before .before .before .before .before .before .before .before .before .before .before .before .before .before .before .before .before .before .before .before .before .before .before .before .before .before .before .sender .ensures) (c .before .before .before .before .before .before .before .before .before .before .before .before .before .before .before .before .before .before .before .before .before .before .before .before .before .before .before .before .before .before .before .before .before .before .before .before .before .before .before .before .before .before .before .identifier .ensures) (c .before .before .before .before .before .before .before .before .before .before .before .before .before .before .before .before .before .before .before .before .before .before .before .before .before .before .before .before .before .before .before .before .before .before .before .before .before .before .before .before .before .before .key-of .ensures) (c .before .before .before .before .before .before .before .before .before .before .before .before .before .before .before .before .before .before .before .before .before .before .before .before .before .before .before .before .before .before .before .before .before .before .before .before .before .before .seek .result) (c .before .before .before .before .before .before .before .before .before .before .before .before .before .before .before .before .before .before .before .before .before .before .before .before .before .before .before .before .before .before .before .before .before .before .before .before .before .before .seek .ensures) _ (centsOf (c .before .before .before .before .before .before .before .before .before .before .before .before .before .before .before .before .before .before .before .before .before .before .before .before .before .before .before .before .before .before .before .before .before .before .before .before .sum-of .result)) (c .before .before .before .before .before .before .before .before .before .before .before .before .before .before .before .before .before .before .before .before .before .before .before .before .before .before .before .before .before .before .before .before .before .before .before .before .sum-of .ensures) (c .before .before .before .before .before .before .before .before .before .before .before .before .before .before .before .before .before .before .before .before .before .before .before .before .before .before .before .before .before .before .before .before .before .before .before .bulk-faults .ensures)
-          (c .before .before .before .before .before .before .before .before .before .before .before .before .before .before .before .before .before .before .before .before .before .before .before .before .before .judge-messages .result) _ _ _ _ _ (c .before .before .before .before .before .before .before .before .before .before .before .before .before .before .before .before .before .before .before .before .before .before .before .before .before .judge-messages .ensures) _ _ _ (c .before .before .before .before .before .before .before .record-bulk .ensures) (start .pre .1 .few);
-    }
+    let most = slots-small (a .terms) (a .table .now) _ _ (a .indexed) (a .sheet .now) (a .header .kind) (a .section) _ _ _ _ _ _ _ (c .before .before .before .before .before .before .before .before .before .before .before .before .before .before .before .before .before .before .before .before .before .before .before .before .before .judge-messages .result) (start .pre .1 .few) (c .before .before .before .before .before .before .before .before .before .before .before .before .before .before .before .before .before .before .before .before .before .before .before .before .before .judge-messages .ensures) in
+    record { fits = omega (arith, most) }
 
 returns : tie.Need-returns
 returns c =
@@ -147,4 +135,4 @@ same-length-4 c =
     ∙ counted .kept .0
 
 pub judge-bulk-spec : {M : Type 1} → statement M
-judge-bulk-spec = tie.close (tie.spec (λ c κs. search needs) (λ c κs. search needs) key-of-requires (λ c. search needs) seek-requires (λ c κs. search needs) (λ c κs. search needs) bulk-faults-requires (λ c κs. search needs) lines-at-requires sub-judge-messages part-judge-messages-start (λ c. search needs) judge-messages-requires (λ c κs. search needs) put-bulk-line-requires slice-aggregate-record-bulk record-bulk-requires (λ c. search needs) add-result (λ c. search needs) add-result-2 same-length same-length-2 same-length-3 same-length-4 returns)
+judge-bulk-spec = tie.close (tie.spec (λ c κs. search needs) (λ c κs. search needs) key-of-requires (λ c. search needs) seek-requires (λ c κs. search needs) (λ c κs. search needs) bulk-faults-requires (λ c κs. search needs) lines-at-requires sub-judge-messages part-judge-messages-start (λ c. search needs) judge-messages-requires (λ c κs. search needs) put-bulk-line-requires slice-aggregate-record-bulk record-bulk-requires (λ c. search needs) (λ c. search needs) (λ c. search needs) add-result-2 same-length same-length-2 same-length-3 same-length-4 returns)
