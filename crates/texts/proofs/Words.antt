@@ -1,18 +1,18 @@
 -- The laws of texts that are compared eight bytes at a time: a word is the number of its bytes, lowest first, it is put together from
 -- its halves, and two words are equal exactly if their bytes are. Assumes nothing.
 use mathlib.Core.Path.{_≡_, refl, sym, ap, ap₂, _∙_}
-use mathlib.Core.Bool.{Bool, true, false, _&&_, and-assoc, false≢true}
+use mathlib.Core.Bool.{Bool, true, false, _&&_, and-assoc, and-true, false≢true}
 use mathlib.Core.List.{List, [], _∷_, _++_, reverse, reverseAux, reverse-append, reverse-reverse}
 use Prim.Native.Nat.{ℕ, zero, suc, _+_, _-_, _*_, _^_, _≤_}
 use native.Mathlib.Nat.{add-zero, add-comm}
 use native.Mathlib.Omega.{arith}
 use lib.Dec.{eqb, lit<}
-use lib.ListN.{length, getD, take, drop, length-drop, length-reverse}
-use lib.Seq.{take-add, take-all, drop-drop, getD-drop}
+use lib.ListN.{length, getD, take, drop, length-reverse}
+use lib.Seq.{take-add, take-all, take-take, drop-drop, getD-drop}
 use borrow.Author.Tests.{eqb-true, eqb-false}
 use Rattle.wire.specs.Field.{Bytes, part, numberFrom, numberOf, bytesOf, same}
 use Rattle.wire.proofs.Numbers.{number-append, read-written}
-use Rattle.wire.proofs.Texts.{same-itself, same-equal, part-length}
+use Rattle.wire.proofs.Texts.{same-itself, same-equal, part-length, drop-take, part-differs}
 
 -- ---- the number of a part, lowest byte first
 
@@ -83,7 +83,7 @@ low-same s t x y hs ht e ex ey = by-test (eqb x y) refl (same s t) refl
         absurd (false≢true (sym q ∙ ap (same s) (sym equal) ∙ same-itself s))
     by-test false p true q = absurd (eqb-false x y p (ex ∙ ap (λ (l : List ℕ). numberOf (reverse l)) (same-equal s t q) ∙ sym ey))
 
--- ---- a comparison in pieces: s and t from place i on are equal exactly if the next n bytes are, and what follows them
+-- ---- a comparison in pieces, from the far end: up to place i, s and t are equal exactly if they are as a whole
 
 same-pieces : (n : ℕ) (s t : List ℕ) → same s t ≡ (same (take n s) (take n t) && same (drop n s) (drop n t))
 unfolding same
@@ -95,35 +95,28 @@ same-pieces (suc n) (x ∷ xs) (y ∷ ys) =
     rw (same-pieces n xs ys) (sym (and-assoc (eqb x y) (same (take n xs) (take n ys)) (same (drop n xs) (drop n ys))))
 
 module _ (s t : List ℕ) where
-  pub piece-differs : (at n : ℕ) → same (part s at n) (part t at n) ≡ false → false ≡ same s t
-  piece-differs at n differ = by-test (same s t) refl
+  pub pieces-start : length s ≡ length t → same (take (length s) s) (take (length s) t) ≡ same s t
+  pieces-start together = ap₂ same (take-all (length s) s (omega arith)) (take-all (length s) t (omega arith))
+
+  -- the n bytes before those that were compared are equal
+  pub piece-more : (i n end : ℕ) → i ≡ end - n → n ≤ end → same (part s i n) (part t i n) ≡ true → same (take end s) (take end t) ≡ same s t
+      → same (take i s) (take i t) ≡ same s t
+  piece-more i n end place fits alike so-far =
+      let whole : end ≡ i + n = omega arith in
+      sym (and-true (same (take i s) (take i t))) ∙ sym joined ∙ (rw whole at so-far)
     where
-      by-test : (b : Bool) → same s t ≡ b → false ≡ same s t
-      by-test false e = sym e
-      by-test true e =
-          let alike : same (part s at n) (part t at n) ≡ true = ap (λ (l : List ℕ). same (part s at n) (part l at n)) (sym (same-equal s t e)) ∙ same-itself (part s at n) in
-          absurd (false≢true (sym differ ∙ alike))
+      joined : same (take (i + n) s) (take (i + n) t) ≡ (same (take i s) (take i t) && true)
+      joined =
+          same-pieces i (take (i + n) s) (take (i + n) t)
+          ∙ ap₂ _&&_
+          (ap₂ same (take-take i (i + n) s (omega arith)) (take-take i (i + n) t (omega arith)))
+          (ap₂ same (drop-take i n s) (drop-take i n t) ∙ alike)
 
-  pub piece-more : (i n : ℕ) → same (part s i n) (part t i n) ≡ true → same (drop i s) (drop i t) ≡ same s t
-      → same (drop (i + n) s) (drop (i + n) t) ≡ same s t
-  piece-more i n alike so-far =
-      sym (ap₂ same (drop-drop n i s) (drop-drop n i t))
-      ∙ sym (same-pieces n (drop i s) (drop i t) ∙ (rw alike))
-      ∙ so-far
-
-  -- what is left lies in a last piece that was found equal
-  pub piece-ends : (last n i : ℕ) → length s ≡ length t → length s ≤ last + n → same (part s last n) (part t last n) ≡ true → last ≤ i
-      → same (drop i s) (drop i t) ≡ same s t → true ≡ same s t
-  piece-ends last n i together reach alike past so-far = sym (same-itself (drop i s)) ∙ ap (same (drop i s)) left ∙ so-far
+  -- what is left lies in the first n bytes
+  pub piece-first : (n end : ℕ) (r : Bool) → end ≤ n → r ≡ same (part s 0 n) (part t 0 n) → same (take end s) (take end t) ≡ same s t → r ≡ same s t
+  piece-first n end false h told so-far = part-differs s t 0 n (sym told)
+  piece-first n end true h told so-far = sym (same-itself (take end s)) ∙ ap (same (take end s)) left ∙ so-far
     where
-      whole : (l : List ℕ) → length l ≤ last + n → part l last n ≡ drop last l
-      whole l h = take-all n (drop last l) (simp length-drop (omega arith))
-
-      end : drop last s ≡ drop last t
-      end = sym (whole s reach) ∙ same-equal (part s last n) (part t last n) alike ∙ whole t (omega arith)
-
-      from-last : (l : List ℕ) → drop (i - last) (drop last l) ≡ drop i l
-      from-last l = let place : last + (i - last) ≡ i = omega arith in drop-drop (i - last) last l ∙ ap (λ (k : ℕ). drop k l) place
-
-      left : drop i s ≡ drop i t
-      left = sym (from-last s) ∙ ap (drop (i - last)) end ∙ from-last t
+      left : take end s ≡ take end t
+      left =
+          sym (take-take end n s h) ∙ ap (take end) (same-equal (part s 0 n) (part t 0 n) (sym told)) ∙ take-take end n t h

@@ -35,7 +35,8 @@ fn same_eight(a: &[u8], b: &[u8], at: usize) -> bool
     eight_at(a, at) == eight_at(b, at)
 }
 
-// Texts of at least eight bytes: the last eight first, since those of one sender differ at the end, then the others from the front.
+// Texts of at least eight bytes, from the far end, since texts often share a long front. The last step takes the first eight bytes, of
+// which some may have been compared.
 fn same_words(a: &[u8], b: &[u8]) -> bool
     requires { ⌜ (8 ≤ length (now a)) × (length (now a) ≡ length (now b)) ⌝ }
     ensures { λ r. ⌜ r ≡ same (now (a .entry)) (now (b .entry)) ⌝ }
@@ -44,14 +45,14 @@ fn same_words(a: &[u8], b: &[u8]) -> bool
     if !same_eight(a, b, last) {
         return false;
     }
-    let mut i = 0;
-    while i < last {
-        if !same_eight(a, b, i) {
+    let mut end = last;
+    while 8 < end {
+        if !same_eight(a, b, end - 8) {
             return false;
         }
-        i += 8;
+        end -= 8;
     }
-    true
+    same_eight(a, b, 0)
 }
 
 fn same_bytes(a: &[u8], b: &[u8]) -> bool

@@ -105,7 +105,7 @@ module _ (s t : List ℕ) (i : ℕ) (together : length s ≡ length t) (so-far :
 
 -- ---- a part of a part
 
-drop-take : (o k : ℕ) (s : List ℕ) → drop o (take (o + k) s) ≡ take k (drop o s)
+pub drop-take : (o k : ℕ) (s : List ℕ) → drop o (take (o + k) s) ≡ take k (drop o s)
 drop-take zero k s = rw zero-add
 drop-take (suc o) k [] = rw (take-nil k, take-nil (suc o + k))
 drop-take (suc o) k (x ∷ xs) = let next : suc o + k ≡ suc (o + k) = omega arith in rw next (drop-take o k xs)
@@ -117,6 +117,16 @@ part-part s at w o n h =
     ∙ ap (take n) (drop-take o (w - o) (drop at s))
     ∙ take-take n (w - o) (drop o (drop at s)) (omega arith)
     ∙ ap (take n) (drop-drop o at s)
+
+-- two texts that differ in a part differ
+pub part-differs : (s t : List ℕ) (at n : ℕ) → same (part s at n) (part t at n) ≡ false → false ≡ same s t
+part-differs s t at n differ = by-test (same s t) refl
+  where
+    by-test : (b : Bool) → same s t ≡ b → false ≡ same s t
+    by-test false e = sym e
+    by-test true e =
+        let alike : same (part s at n) (part t at n) ≡ true = rw (same-equal s t e) (same-itself (part t at n)) in
+        absurd (false≢true (sym differ ∙ alike))
 
 -- ---- a part of two lists one after the other
 
