@@ -5,17 +5,16 @@ use mathlib.Core.Bool.{Bool, true, false, cond, _&&_, _||_, false≢true, or-ass
 use mathlib.Core.List.{List, [], _∷_, _++_, map, append-nil, List·Memᴰ, List·Memᴰ·head, List·Memᴰ·tail, List·Memᴰ·not-nil, List·Memᴰ·cases-cons}
 use mathlib.Core.Option.{some}
 use Prim.Native.Nat.{ℕ, zero, suc, _+_, _-_, _*_, _/_, _^_, _≤_, _<_}
-use native.Mathlib.Nat.{sub-zero, add-zero, zero-add, add-suc, suc-add, mod-eq-of-lt, add-sub-cancel-left}
+use native.Mathlib.Nat.{add-zero, zero-add, add-suc, suc-add, mod-eq-of-lt}
 use native.Mathlib.Omega.{arith}
 use lib.Dec.{lit≤, leb, eqb}
-use lib.ListN.{length, take, drop, set, replicate, length-append, drop-of-length-le}
+use lib.ListN.{length, drop, set, replicate, length-append, drop-of-length-le}
 use lib.Seq.{sets, sets-eq, length-sets, take-all, take-take}
 use borrow.Author.Tests.{leb-true, eqb-true, le-leb, eq-eqb}
 use Rattle.wire.specs.Field.{numberOf, bytesOf, same}
 use Rattle.wire.specs.Places.{firstFrom}
 use Rattle.wire.proofs.Numbers.{bytes-length, written-read}
 use Rattle.wire.proofs.Texts.{same-itself, same-equal}
-use Rattle.wire.proofs.Scans.{first-here, first-more, first-ends}
 use Rattle.wire.proofs.Stores.{sets-append, part-stored, part-before, part-after}
 use Rattle.register.specs.Register.{senderWidth, tagPlace, keyWidth, key, entryWidth, entry, keyIn, mostEntries, usedWidth, used, room, free, entryPlace, entryAt, keyAt, wellFormed, inUse, entriesTo, entriesOf, keysOf, listed, search, isThere, stands, add}
 use Rattle.register.specs.Room.{Formed, Spare, FormTold, Parts}
@@ -179,7 +178,7 @@ listed-last : (ks : List (List ℕ)) (k x : List ℕ) → listed (ks ++ (k ∷ [
 unfolding listed
 listed-last ks k x = listed-append ks (k ∷ []) x ∙ ap (λ (t : Bool). listed ks x || t) (or-false (same k x))
 
-there-step : (f : ℕ → Bool) (n i : ℕ) → isThere (firstFrom f (suc n) i) ≡ (f i || isThere (firstFrom f n (suc i)))
+pub there-step : (f : ℕ → Bool) (n i : ℕ) → isThere (firstFrom f (suc n) i) ≡ (f i || isThere (firstFrom f n (suc i)))
 unfolding firstFrom
 there-step f n i = by-test (f i)
   where
@@ -229,26 +228,3 @@ member-listed (k ∷ ks) x m = ⊎-elim
 
 pub stands-member : (r x : List ℕ) → (stands r x ≡ true → List·Memᴰ x (keysOf r)) × (List·Memᴰ x (keysOf r) → stands r x ≡ true)
 stands-member r x = (λ h. listed-member (keysOf r) x (sym (stands-listed r x) ∙ h), λ m. stands-listed r x ∙ member-listed (keysOf r) x m)
-
--- ---- a search that goes on from place k of n
-
-abbrev pub standsLeft : List ℕ → List ℕ → ℕ → ℕ → Bool
-standsLeft r x n k = isThere (firstFrom (λ j. same (keyAt r j) x) (n - k) k)
-
-module _ (r x : List ℕ) (n : ℕ) where
-  pub stands-start : n ≡ inUse r → standsLeft r x n 0 ≡ stands r x
-  unfolding stands search
-  stands-start e = rw (e, sub-zero)
-
-  pub stands-ends : (k : ℕ) → n ≤ k → standsLeft r x n k ≡ false
-  stands-ends k h = ap isThere (first-ends (λ j. same (keyAt r j) x) n k h)
-
-  module _ (k : ℕ) (t : Bool) (tested : t ≡ same (take (entryPlace k + keyWidth - entryPlace k) (drop (entryPlace k) r)) x) (h : k < n) where
-    here : t ≡ same (keyAt r k) x
-    here = rw (add-sub-cancel-left (entryPlace k) keyWidth) at tested
-
-    pub stands-here : t ≡ true → standsLeft r x n k ≡ true
-    stands-here e = ap isThere (first-here (λ j. same (keyAt r j) x) n k h (sym here ∙ e))
-
-    pub stands-more : t ≡ false → standsLeft r x n (k + 1) ≡ standsLeft r x n k
-    stands-more e = ap isThere (first-more (λ j. same (keyAt r j) x) n k h (sym here ∙ e))

@@ -1,3 +1,4 @@
 pub mod Cases
 pub mod Computing
 pub mod Laws
+mod Search

@@ -1,6 +1,10 @@
 // The register of used identifiers: its form, the search of a key, and adding one. It knows nothing of what an identifier means.
 ghost use mathlib.Core.Path.{_≡_};
-ghost use Rattle.register.specs.Register.{key, used, room, inUse, free, stands, add};
+ghost use Prim.Native.Nat.{_+_, _-_, _≤_, _<_};
+ghost use lib.ListN.{length};
+ghost use Rattle.wire.specs.Field.{part, same};
+ghost use Rattle.wire.specs.Places.{firstFrom};
+ghost use Rattle.register.specs.Register.{keyWidth, key, used, room, inUse, free, keyAt, isThere, stands, add};
 ghost use Rattle.register.specs.Room.{FormTold, Parts};
 
 // The tag of a message's key, and of a bulk's.
@@ -20,6 +24,17 @@ pub const KEY_WIDTH: usize = TAG_PLACE + 1;
 pub const ENTRY_WIDTH: usize = KEY_WIDTH;
 
 pub const USED_WIDTH: usize = 4;
+
+// The bytes that one step of a comparison looks at.
+const WORD: usize = 8;
+
+// The entries that one turn of a search looks at. The compiler writes them out one after the other, so that the turn itself costs little.
+const ENTRIES_A_TURN: usize = 8;
+
+// The entries by which a search guesses what tells its key apart: so many, unless that brings them nearer together than this.
+const SAMPLES: usize = 4;
+
+const APART: usize = 16;
 
 const MOST_ENTRIES: usize = 60000;
 
@@ -76,21 +91,115 @@ pub fn key_of(sender: &[u8], identifier: &[u8], tag: u8) -> [u8; KEY_WIDTH]
     made
 }
 
-// Whether an entry has the key. The search reads no entry past those in use.
-pub fn stands(register: &[u8], key: &[u8]) -> bool
-    ensures { λ r. ⌜ r ≡ stands (now (register .entry)) (now (key .entry)) ⌝ }
+// Whether entry k has the key's word at `place`.
+fn has_word(register: &[u8], k: usize, key: &[u8], place: usize) -> bool
+    requires { ⌜ (k < inUse (now register)) × (length (now key) ≡ keyWidth) × (place + 8 ≤ keyWidth) ⌝ }
+    ensures { λ r. ⌜ r ≡ same (part (keyAt (now (register .entry)) k) place 8) (part (now (key .entry)) place 8) ⌝ }
 {
-    let n = in_use(register) as usize;
-    let mut k = 0;
-    while k < n {
-        let at = USED_WIDTH + ENTRY_WIDTH * k;
-        let end = at + KEY_WIDTH;
-        if texts::same(&register[at..end], key) {
+    let at = USED_WIDTH + ENTRY_WIDTH * k + place;
+    texts::same(&register[at..at + WORD], &key[place..place + WORD])
+}
+
+// Whether entry k has the key. One word is looked at before the whole, since mostly it differs.
+fn has_key(register: &[u8], k: usize, key: &[u8], place: usize) -> bool
+    requires { ⌜ (k < inUse (now register)) × (length (now key) ≡ keyWidth) × (place + 8 ≤ keyWidth) ⌝ }
+    ensures { λ r. ⌜ r ≡ same (keyAt (now (register .entry)) k) (now (key .entry)) ⌝ }
+{
+    if !has_word(register, k, key, place) {
+        return false;
+    }
+    let at = USED_WIDTH + ENTRY_WIDTH * k;
+    texts::same(&register[at..at + KEY_WIDTH], key)
+}
+
+// Whether one of the entries from `from` up to `to` has the key.
+fn stands_between(register: &[u8], from: usize, to: usize, key: &[u8], place: usize) -> bool
+    requires { ⌜ (to ≤ inUse (now register)) × (length (now key) ≡ keyWidth) × (place + 8 ≤ keyWidth) ⌝ }
+    ensures { λ r. ⌜ r ≡ isThere (firstFrom (λ k. same (keyAt (now (register .entry)) k) (now (key .entry))) (to - from) from) ⌝ }
+{
+    let mut k = from;
+    while k < to {
+        if has_key(register, k, key, place) {
             return true;
         }
         k += 1;
     }
     false
+}
+
+// How many of the samples from `from` up to `to` have the key's word.
+fn samples_with_word(register: &[u8], from: usize, to: usize, key: &[u8], place: usize) -> usize
+    requires { ⌜ (from ≤ to) × (to ≤ inUse (now register)) × (length (now key) ≡ keyWidth) × (place + 8 ≤ keyWidth) ⌝ }
+{
+    let step = (to - from) / SAMPLES + APART;
+    let mut n = 0;
+    let mut k = from;
+    while k < to {
+        n += has_word(register, k, key, place) as usize;
+        k += wire::least(step, to - k);
+    }
+    n
+}
+
+// Where a search looks first, which changes no answer: the word that tells the key apart from most of the samples. Of those that do
+// equally well it is the one nearest to the end of the identifier.
+fn telling_word(register: &[u8], from: usize, to: usize, key: &[u8]) -> usize
+    requires { ⌜ (from ≤ to) × (to ≤ inUse (now register)) × (length (now key) ≡ keyWidth) ⌝ }
+    ensures { λ r. ⌜ r + 8 ≤ keyWidth ⌝ }
+{
+    let mut best = TAG_PLACE - WORD;
+    let mut fewest = samples_with_word(register, from, to, key, best);
+    let mut place = best;
+    while 0 < place {
+        if fewest == 0 {
+            return best;
+        }
+        place -= wire::least(place, WORD);
+        let n = samples_with_word(register, from, to, key, place);
+        if n < fewest {
+            best = place;
+            fewest = n;
+        }
+    }
+    best
+}
+
+// Whether one of the entries from `from` up to `to` has the key, by turns.
+fn stands_by_turns(register: &[u8], from: usize, to: usize, key: &[u8]) -> bool
+    requires { ⌜ (from ≤ to) × (to ≤ inUse (now register)) × (length (now key) ≡ keyWidth) ⌝ }
+    ensures { λ r. ⌜ r ≡ isThere (firstFrom (λ k. same (keyAt (now (register .entry)) k) (now (key .entry))) (to - from) from) ⌝ }
+{
+    if from == to {
+        return false;
+    }
+    let place = telling_word(register, from, to, key);
+    let turns = (to - from) / ENTRIES_A_TURN;
+    let mut i = 0;
+    while i < turns {
+        let k = from + ENTRIES_A_TURN * i;
+        if stands_between(register, k, k + ENTRIES_A_TURN, key, place) {
+            return true;
+        }
+        i += 1;
+    }
+    stands_between(register, from + ENTRIES_A_TURN * turns, to, key, place)
+}
+
+// Whether an entry has the key. The search reads no entry past those in use. Older and newer entries, unless they are few, are searched
+// apart, since they may differ from the key in other words; and the compiler does not write out what is called twice, which leaves the
+// code around this fast.
+pub fn stands(register: &[u8], key: &[u8]) -> bool
+    ensures { λ r. ⌜ r ≡ stands (now (register .entry)) (now (key .entry)) ⌝ }
+{
+    if key.len() != KEY_WIDTH {
+        return false;
+    }
+    let n = in_use(register) as usize;
+    let half = n / (2 * APART) * APART;
+    if stands_by_turns(register, 0, half, key) {
+        return true;
+    }
+    stands_by_turns(register, half, n, key)
 }
 
 // Adds the entry of a key at the first place that is not in use.
