@@ -9,10 +9,10 @@ use crate::records::{
 use crate::reference::right_index;
 
 const DATE: u32 = 20260615;
-const SENDER: &[u8; 8] = b"AAAALV22";
+pub const SENDER: &[u8; 8] = b"AAAALV22";
 const MOST_CENTS: u64 = 99_999_999_999;
 
-fn identifier(letter: char, index: usize) -> Identifier {
+pub fn identifier(letter: char, index: usize) -> Identifier {
     padded(format!("{letter}SALARIES/2026-06/BATCH/{index:011}").as_bytes())
 }
 

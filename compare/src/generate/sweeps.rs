@@ -1,8 +1,9 @@
-//! Sweeps that leave nothing to chance: every date around the limits, every byte at every place of a field.
+//! Sweeps that leave nothing to chance: every date around the limits, every byte at every place of a field, every byte in which an
+//! entry may differ from a message's.
 
-use super::limits::{bulk, call, falling, message, register, rows, Limit};
+use super::limits::{bulk, call, falling, identifier, message, register, rows, Limit, SENDER};
 use crate::call::Call;
-use crate::records::{padded, Bulk, Message};
+use crate::records::{padded, Bulk, Entry, Identifier, Message, Record, COUNT};
 
 /// Every month and day, and some that are none, of the years that matter.
 pub fn dates() -> impl Iterator<Item = u32> {
@@ -44,6 +45,33 @@ fn good_return() -> Message {
     Message { original: 100, reason: *b"AC01", name: *b"pacs.008.001.08", ..good() }
 }
 
+/// A message beside every entry that differs from its own in one byte, and beside its own entry if that is `there`. What is added to
+/// the byte is the number of slots, so that by an index, too, the search goes over all of them.
+fn beside(sought: Identifier, there: bool) -> Call {
+    // the others, its own, and what the file adds
+    const ROOM: usize = Entry::WIDTH + 1 + 2;
+    const SLOTS: u8 = 2 * ROOM as u8;
+    let mut own = Vec::new();
+    Entry { sender: *SENDER, identifier: sought, tag: 1 }.write(&mut own);
+    let used = Entry::WIDTH + usize::from(there);
+    let mut entries = (used as u32).to_be_bytes().to_vec();
+    for place in 0..Entry::WIDTH {
+        let mut other = own.clone();
+        other[place] += SLOTS;
+        entries.extend(other);
+    }
+    // without it this place is not in use
+    entries.extend(own);
+    entries.resize(COUNT + ROOM * Entry::WIDTH, 0);
+    call(&rows(2), entries, &[bulk(0, vec![Message { identifier: sought, ..good() }])])
+}
+
+/// Every one of so many entries repeated, and one that is not there.
+fn repeats(used: usize) -> Call {
+    let repeat = |index| Message { identifier: identifier('E', index), ..good() };
+    call(&rows(2), register(used, 2 * used + 2), &falling(vec![bulk(0, (0..=used).map(repeat).collect())]))
+}
+
 /// Empty bulks of these kinds.
 fn kinds(kinds: &[u8]) -> Call {
     let mut bulks: Vec<Bulk> = kinds.iter().enumerate().map(|(index, _)| bulk(index, Vec::new())).collect();
@@ -51,7 +79,7 @@ fn kinds(kinds: &[u8]) -> Call {
     call(&rows(2), register(0, bulks.len()), &bulks)
 }
 
-pub const SWEEPS: [Limit; 6] = [
+pub const SWEEPS: [Limit; 16] = [
     ("every byte in a short identifier", || {
         let identifiers = every_byte(padded(b"AAA"), &[0, 1, 2, 3]);
         shows(1, identifiers.into_iter().map(|identifier| Message { identifier, ..good() }).collect())
@@ -76,4 +104,14 @@ pub const SWEEPS: [Limit; 6] = [
         shows(3, reasons.chain(names.map(|name| Message { name, ..good_return() })).collect())
     }),
     ("a payment after a return and then a kind 4", || kinds(&[3, 1, 4])),
+    ("a long identifier beside others that differ in one byte", || beside(identifier('M', 0), false)),
+    ("a long identifier and others that differ in one byte", || beside(identifier('M', 0), true)),
+    ("a short identifier beside others that differ in one byte", || beside(padded(b"A"), false)),
+    ("a short identifier and others that differ in one byte", || beside(padded(b"A"), true)),
+    ("one entry repeated", || repeats(1)),
+    ("7 entries repeated", || repeats(7)),
+    ("15 entries repeated", || repeats(15)),
+    ("16 entries repeated", || repeats(16)),
+    ("17 entries repeated", || repeats(17)),
+    ("50 entries repeated", || repeats(50)),
 ];
