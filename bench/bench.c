@@ -1,10 +1,11 @@
 /*
  * Judges one large input in several ways: plain and by an index, by the archive and by the plain C judges.
- *     bench each ROWS ENTRIES BULKS MESSAGES [falling|crowded]
+ *     bench each ROWS ENTRIES BULKS MESSAGES [SHAPE] [falling]
  *         times each way, compares what they leave, prints the times and the slots read
- *     bench WAY ROWS ENTRIES BULKS MESSAGES [falling|crowded]
+ *     bench WAY ROWS ENTRIES BULKS MESSAGES [SHAPE] [falling]
  *         runs one way once, for counting instructions: plain or hashed (C, the latter by a hash table), archive or
  *         indexed (the archive's two judges), build (the archive's index once more) or none
+ *     SHAPE, of identifiers: leading, short, mixed, many or crowded (inputs.h)
  *
  * Index and hash table are handed over built, so they are built before any way, also before none, whose count is to be
  * taken off the others.
@@ -64,7 +65,7 @@ static input prepared(const sizes *s) {
 static uint64_t run(int way, const sizes *s, input *in) {
     tynderaxo_indexed_answer answer = ways[way].run(in);
     uint8_t used[4];
-    int adds = ways[way].judges && s->kind != FALLING;
+    bool adds = ways[way].judges && !s->falling;
     number(used, s->entries + (adds ? s->bulks + s->messages : 0), 4);
     if (answer.number != 0 || memcmp(used, in->reg.bytes, 4) != 0) fail("the input is not taken as it was meant");
     return answer.slots;
@@ -107,14 +108,32 @@ static void run_each(const sizes *s) {
     printf("%llu\n", (unsigned long long)slots);
 }
 
+static const struct {
+    const char *name;
+    shape identifiers;
+} shapes[] = {{"leading", LEADING}, {"short", SHORT}, {"mixed", MIXED}, {"many", MANY}, {"crowded", CROWDED}};
+enum { SHAPES = sizeof shapes / sizeof *shapes };
+
+static void take_word(sizes *s, const char *word) {
+    if (strcmp(word, "falling") == 0) {
+        s->falling = true;
+        return;
+    }
+    for (int i = 0; i < SHAPES; i++) {
+        if (strcmp(word, shapes[i].name) != 0) continue;
+        if (s->identifiers != SHARED_FRONT) fail("one shape only");
+        s->identifiers = shapes[i].identifiers;
+        return;
+    }
+    fail("leading, short, mixed, many, crowded or falling?");
+}
+
 int main(int argc, char **argv) {
-    if (argc != 6 && argc != 7) fail("usage: bench each|WAY ROWS ENTRIES BULKS MESSAGES [falling|crowded]");
+    if (argc < 6) fail("usage: bench each|WAY ROWS ENTRIES BULKS MESSAGES [SHAPE] [falling]");
     sizes s = {strtoul(argv[2], NULL, 10), strtoul(argv[3], NULL, 10), strtoul(argv[4], NULL, 10),
-               strtoul(argv[5], NULL, 10), USUAL};
+               strtoul(argv[5], NULL, 10), SHARED_FRONT, false};
+    for (int i = 6; i < argc; i++) take_word(&s, argv[i]);
     if (s.rows == 0 || s.bulks == 0 || s.entries + s.bulks + s.messages > ROOM) fail("no such size");
-    if (argc == 7 && strcmp(argv[6], "falling") == 0) s.kind = FALLING;
-    if (argc == 7 && strcmp(argv[6], "crowded") == 0) s.kind = CROWDED;
-    if (argc == 7 && s.kind == USUAL) fail("falling or crowded?");
     if (strcmp(argv[1], "each") == 0) {
         run_each(&s);
         return 0;

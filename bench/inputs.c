@@ -1,6 +1,6 @@
 /*
- * Makes large inputs: the hard case that real files come close to. One sender, whose identifiers share their first 28 bytes;
- * receivers all over the table, every fourth of them found only by its head office's row.
+ * Makes large inputs: the hard case that real files come close to. Mostly one sender; receivers all over the table, every
+ * fourth of them found only by its head office's row.
  */
 #include "inputs.h"
 
@@ -8,7 +8,8 @@
 #include <stdlib.h>
 #include <string.h>
 
-enum { BRANCHES = 8, SLOTS = 2 * ROOM, MESSAGE = 1, BULK = 2 };
+enum { BRANCHES = 8, SLOTS = 2 * ROOM, MESSAGE = 1, BULK = 2, BULK_SIZE = 16, LETTERS = 62 };
+static const char letters[LETTERS + 1] = "0123456789ABCDEFGHIJKLMNOPQRSTUVWXYZabcdefghijklmnopqrstuvwxyz";
 
 void fail(const char *why) {
     fprintf(stderr, "bench: %s\n", why);
@@ -54,17 +55,21 @@ static buffer make_table(const sizes *s) {
     return table;
 }
 
-/* The bank in the middle of the table sends everything. */
-static uint8_t *sender(uint8_t *at, const sizes *s) {
+/* One bank in the middle of the table sends everything; where many do, they take turns. */
+static size_t banks(const sizes *s) { return (s->rows + BRANCHES - 1) / BRANCHES; }
+
+static uint8_t *sender(uint8_t *at, const sizes *s, size_t turn) {
     uint8_t eleven[11];
-    bic(eleven, s->rows / 2, NULL);
+    bic(eleven, s->identifiers == MANY ? turn % banks(s) * BRANCHES : s->rows / 2, NULL);
     memcpy(at, eleven, 8);
     return at + 8;
 }
 
+/* One count for all, or where many banks send, each one's own. */
+static size_t counted(const sizes *s, size_t all, size_t own) { return s->identifiers == MANY ? own : all; }
+
 /* For each remainder three characters that are worth it as the last ones of an identifier; for some there are none. */
 static const char *end_worth(size_t remainder) {
-    static const char letters[] = "0123456789ABCDEFGHIJKLMNOPQRSTUVWXYZabcdefghijklmnopqrstuvwxyz";
     static char ends[SLOTS][3];
     static int filled;
     for (const char *a = letters; !filled && *a != 0; a++)
@@ -94,14 +99,33 @@ static void crowd(uint8_t identifier[35], const uint8_t sender[8], uint8_t tag) 
     fail("no end reaches the slot");
 }
 
+/* A number in four characters. */
+static void spell(char four[5], size_t index) {
+    for (int i = 3; i >= 0; i--, index /= LETTERS) four[i] = letters[index % LETTERS];
+    four[4] = 0;
+}
+
+static shape shape_of(const sizes *s, size_t index) {
+    if (s->identifiers != MIXED) return s->identifiers;
+    return index % 2 == 0 ? SHORT : SHARED_FRONT;
+}
+
 static uint8_t *identifier(uint8_t *at, const sizes *s, size_t index, uint8_t tag) {
     char value[48];
-    const char *front = s->kind == CROWDED ? "SLOT" : "BATCH01/";
-    snprintf(value, sizeof value, "SALARIES/2026-06-15/%s%07u", front, (unsigned)index % 10000000u);
+    unsigned seven = (unsigned)index % 10000000u;
+    switch (shape_of(s, index)) {
+    case LEADING: snprintf(value, sizeof value, "%07u/SALARIES", seven); break;
+    case SHORT: spell(value, index); break;
+    case MANY: snprintf(value, sizeof value, "%u", seven); break;
+    case CROWDED: snprintf(value, sizeof value, "SALARIES/2026-06-15/SLOT%07u", seven); break;
+    default: snprintf(value, sizeof value, "SALARIES/2026-06-15/BATCH01/%07u", seven);
+    }
     text(at, value, 35);
-    uint8_t eight[8];
-    sender(eight, s);
-    if (s->kind == CROWDED) crowd(at, eight, tag);
+    if (s->identifiers == CROWDED) {
+        uint8_t eight[8];
+        sender(eight, s, 0);
+        crowd(at, eight, tag);
+    }
     return at + 35;
 }
 
@@ -109,18 +133,20 @@ static buffer make_register(const sizes *s) {
     buffer reg = space(4 + 44 * ROOM);
     uint8_t *at = number(reg.bytes, s->entries, 4);
     for (size_t entry = 0; entry < s->entries; entry++) {
-        at = sender(at, s);
-        at = identifier(at, s, 5000000 + entry, MESSAGE);
-        at = number(at, MESSAGE, 1);
+        uint8_t tag = entry % BULK_SIZE == 0 ? BULK : MESSAGE;
+        at = sender(at, s, entry);
+        at = identifier(at, s, counted(s, 5000000 + entry, entry / banks(s)), tag);
+        at = number(at, tag, 1);
     }
     return reg;
 }
 
 static uint64_t amount(size_t message) { return 100 + message % 900; }
 
-static uint8_t *make_message(uint8_t *at, const sizes *s, size_t message) {
+/* Where many banks send, each bulk is another's: its messages count on from what that bank has in the register. */
+static uint8_t *make_message(uint8_t *at, const sizes *s, size_t message, size_t first) {
     size_t row = message * 7919 % s->rows;
-    at = identifier(at, s, message, MESSAGE);
+    at = identifier(at, s, counted(s, message, s->entries / banks(s) + 1 + message - first), MESSAGE);
     at = bic(at, row, message % 4 == 0 ? "RIX" : NULL);
     at = number(at, amount(message), 8);
     at = number(at, 0, 8);
@@ -139,16 +165,16 @@ static buffer make_sheet(const sizes *s) {
         for (size_t message = first_of(s, bulk); message < first_of(s, bulk + 1); message++) sum += amount(message);
         at = number(at, 1, 1);
         at = identifier(at, s, 9000000 + bulk, BULK);
-        at = sender(at, s);
+        at = sender(at, s, bulk);
         at = number(at, first_of(s, bulk + 1) - first_of(s, bulk), 8);
         at = number(at, sum, 8);
         at = number(at, TODAY, 4);
-        at = number(at, s->kind == FALLING ? 7 : 3, 1);
+        at = number(at, s->falling ? 7 : 3, 1);
     }
     for (size_t bulk = 0; bulk < s->bulks; bulk++) {
         at = number(at, first_of(s, bulk + 1) - first_of(s, bulk), 4);
         for (size_t message = first_of(s, bulk); message < first_of(s, bulk + 1); message++)
-            at = make_message(at, s, message);
+            at = make_message(at, s, message, first_of(s, bulk));
     }
     return sheet;
 }

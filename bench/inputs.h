@@ -2,19 +2,29 @@
 #ifndef INPUTS_H
 #define INPUTS_H
 
+#include <stdbool.h>
 #include <stddef.h>
 #include <stdint.h>
 
 /*
- * USUAL: every message is accepted, so that each one is searched in the whole register and makes it longer.
- * FALLING: the same, but every bulk has wrong marks: no message is added and none pays.
- * CROWDED: every identifier is chosen, as a sender could, so that all entries start at one slot.
+ * What tells identifiers apart.
+ * SHARED_FRONT: the last seven of 35 characters.
+ * LEADING: the first seven; a word and blanks follow.
+ * SHORT: four characters; blanks follow.
+ * MIXED: every other identifier is short, the others have a shared front.
+ * MANY: short numbers, and the sender; each of many banks counts its own, so that some of the numbers are the same.
+ * CROWDED: seven characters before the last four; those are chosen, as a sender could, so that all entries start at one slot.
  */
-typedef enum { USUAL, FALLING, CROWDED } file_kind;
+typedef enum { SHARED_FRONT, LEADING, SHORT, MIXED, MANY, CROWDED } shape;
 
+/*
+ * Every message is accepted, so that each one is searched in the whole register and makes it longer. In a falling file every
+ * bulk has wrong marks: no message is added and none pays.
+ */
 typedef struct {
     size_t rows, entries, bulks, messages;
-    file_kind kind;
+    shape identifiers;
+    bool falling;
 } sizes;
 
 typedef struct {
