@@ -5,7 +5,7 @@ use mathlib.Core.Bool.{Bool, true, false, cond, _&&_, false≢true}
 use mathlib.Core.List.{List, [], _∷_, _++_}
 use mathlib.Core.Option.{Option, none, some}
 use Prim.Native.Nat.{ℕ, zero, suc, _+_, _-_, _*_, _/_, _≤_, _<_}
-use native.Mathlib.Nat.{sub-zero, zero-sub, suc-sub-suc, zero-add, add-sub-cancel-left}
+use native.Mathlib.Nat.{sub-zero, zero-sub, suc-sub-suc, zero-add}
 use native.Mathlib.Omega.{arith}
 use lib.Dec.{leb, eqb}
 use lib.ListN.{length, getD, take, drop, replicate, replicate-append-replicate, List·getD-eq-default}
@@ -18,7 +18,7 @@ use Rattle.wire.proofs.Scans.{first-found}
 use Rattle.wire.proofs.Texts.{part-short}
 use Rattle.calendar.specs.Date.{isDate}
 use Rattle.routing.specs.Table.{institutionWidth, branchWidth, bicWidth, kindPlace, rowWidth, countWidth, mostRows, rowAt, rows, statedRows, knownKind, bicAt, kindAt, kindsKnown, wellFormed}
-use Rattle.routing.specs.Promise.{Formed, FormTold, Below}
+use Rattle.routing.specs.Promise.{Formed, FormTold, HeadTold, Below}
 use Rattle.routing.specs.declared.Refusal.the-variants.{Date, Table, Bic}
 use Rattle.routing.specs.declared.Found.{Found}
 use Rattle.routing.specs.declared.Found.the-variants.{Row as FoundRow}
@@ -75,9 +75,9 @@ unfolding rowOf
 row-start date table bic n e = rw (e, sub-zero)
 
 -- a row that does not bear the BIC need not be asked whether it counts
-module _ (date : ℕ) (table bic : List ℕ) (i : ℕ) (t : Bool) (tested : t ≡ same (take (rowAt i + bicWidth - rowAt i) (drop (rowAt i) table)) bic) where
+module _ (date : ℕ) (table bic : List ℕ) (i : ℕ) (found : List ℕ) (t : Bool) (read : found ≡ bicAt table i) (tested : t ≡ same found bic) where
   named : t ≡ same (bicAt table i) bic
-  named = rw (add-sub-cancel-left (rowAt i) bicWidth) at tested
+  named = tested ∙ (rw read)
 
   pub bears-named : t ≡ true → counts date table i ≡ bears date table bic i
   bears-named e = rw (← named, e)
@@ -100,21 +100,25 @@ three-left m a h =
     let more : m ≡ 3 + (m - 3) = omega arith in
     rw (more, ← (replicate-append-replicate 3 (m - 3) a)) (take-at (replicate 3 a) (replicate (3 + (m - 3) - 3) a) 3 refl)
 
-pub head-length : (bic front head : List ℕ) → front ≡ part bic 0 institutionWidth → head ≡ sets (replicate bicWidth x) 0 front → length front + branchWidth ≤ length head
-head-length bic front head ef eh =
-    let long : length head ≡ bicWidth = ap length eh ∙ length-sets (replicate bicWidth x) 0 front in
-    let short : length front ≤ institutionWidth = rw ef (part-short bic 0 institutionWidth) in
-    omega arith
+module _ (bic front text : List ℕ) (ef : front ≡ part bic 0 institutionWidth) (et : text ≡ sets (replicate bicWidth x) 0 front) where
+  front-short : length front ≤ institutionWidth
+  front-short = rw ef (part-short bic 0 institutionWidth)
 
-pub head-written : (bic front head : List ℕ) → front ≡ part bic 0 institutionWidth → head ≡ sets (replicate bicWidth x) 0 front
-    → take (length front + branchWidth) head ≡ headOffice bic
-head-written bic front head ef eh =
-    let short : length front ≤ institutionWidth = rw ef (part-short bic 0 institutionWidth) in
-    ap (take (length front + branchWidth)) (eh ∙ sets-eq front (replicate bicWidth x) 0 (omega arith))
-    ∙ take-append-add front (drop (0 + length front) (replicate bicWidth x)) 3
-    ∙ ap (λ (l : List ℕ). front ++ take 3 l) (ap (λ (k : ℕ). drop k (replicate bicWidth x)) (zero-add (length front)) ∙ drop-replicate (length front) bicWidth x)
-    ∙ ap (λ (l : List ℕ). front ++ l) (three-left (bicWidth - length front) x (omega arith))
-    ∙ ap (λ (l : List ℕ). l ++ xxx) ef
+  head-within : length front + branchWidth ≤ length text
+  head-within =
+      let long : length text ≡ bicWidth = ap length et ∙ length-sets (replicate bicWidth x) 0 front in
+      omega (arith, front-short)
+
+  head-written : take (length front + branchWidth) text ≡ headOffice bic
+  head-written =
+      ap (take (length front + branchWidth)) (et ∙ sets-eq front (replicate bicWidth x) 0 (omega (arith, front-short)))
+      ∙ take-append-add front (drop (0 + length front) (replicate bicWidth x)) 3
+      ∙ ap (λ (l : List ℕ). front ++ take 3 l) (ap (λ (k : ℕ). drop k (replicate bicWidth x)) (zero-add (length front)) ∙ drop-replicate (length front) bicWidth x)
+      ∙ ap (λ (l : List ℕ). front ++ l) (three-left (bicWidth - length front) x (omega (arith, front-short)))
+      ∙ ap (λ (l : List ℕ). l ++ xxx) ef
+
+  pub head-told : HeadTold bic (record { text = text; length = length front + branchWidth })
+  head-told = record { within = head-within; is = head-written }
 
 -- ---- the three ways of a route
 

@@ -4,9 +4,10 @@ use mathlib.Core.Path.{_≡_}
 use mathlib.Core.Bool.{Bool, true}
 use mathlib.Core.List.{List}
 use mathlib.Core.Option.{Option, none, some}
-use lib.ListN.{length}
+use lib.ListN.{length, take}
 use Rattle.routing.specs.Table.{rowWidth, countWidth, mostRows, rows, wellFormed}
-use Rattle.routing.specs.Lookup.{Routed, valuesOf}
+use Rattle.routing.specs.Lookup.{headOffice, Routed, valuesOf}
+use Rattle.routing.specs.declared.HeadOffice.{HeadOffice}
 use Rattle.routing.specs.declared.Answer.{Answer}
 use Rattle.routing.specs.declared.Answer.the-variants.{Refused, Missing, Row}
 
@@ -27,6 +28,11 @@ Below n (some i) = i < n
 pub record RowTold (table : List ℕ) (told expected : Option ℕ) : Type 0 where
   pub is : told ≡ expected
   pub within : Below (rows table) told
+
+-- a head office is so many bytes of a text
+pub record HeadTold (bic : List ℕ) (told : HeadOffice) : Type 0 where
+  pub within : told .length ≤ length (told .text)
+  pub is : take (told .length) (told .text) ≡ headOffice bic
 
 -- the answer to a question, and that a row it names is a row of the table, of which there are few
 abbrev pub NamedBelow : ℕ → Answer → Type 0

@@ -4,16 +4,16 @@ ghost use mathlib.Core.Path.{_≡_};
 ghost use Prim.Native.Nat.{_+_, _≤_};
 ghost use lib.ListN.{length};
 ghost use Rattle.wire.specs.Field.{numberAt};
-ghost use Rattle.routing.specs.Table.{dateWidth, rowAt, rowWidth, rows, knownKind, kindAt, kindsKnown};
-ghost use Rattle.routing.specs.Promise.{FormTold, RowTold, AnswerTold};
-ghost use Rattle.routing.specs.Lookup.{lookupNumber, optionOf, counts, bears, rowOf, headOfficeRow, route, reachable, participates, lookup};
+ghost use Rattle.routing.specs.Table.{dateWidth, rowAt, rowWidth, bicAt, rows, knownKind, kindAt, kindsKnown};
+ghost use Rattle.routing.specs.Promise.{FormTold, RowTold, HeadTold, AnswerTold};
+ghost use Rattle.routing.specs.Lookup.{lookupNumber, optionOf, counts, bears, rowOf, headOfficeRow, isHeadOffice, route, reachable, participates, lookup};
 use wire::COUNT_WIDTH;
 
 const INSTITUTION_WIDTH: usize = 8;
 
 const BRANCH_WIDTH: usize = 3;
 
-const BIC_WIDTH: usize = INSTITUTION_WIDTH + BRANCH_WIDTH;
+pub const BIC_WIDTH: usize = INSTITUTION_WIDTH + BRANCH_WIDTH;
 
 const DATE_WIDTH: usize = 4;
 
@@ -23,7 +23,7 @@ const LAST_DATE_PLACE: usize = FIRST_DATE_PLACE + DATE_WIDTH;
 
 const KIND_PLACE: usize = LAST_DATE_PLACE + DATE_WIDTH;
 
-const ROW_WIDTH: usize = KIND_PLACE + 1;
+pub const ROW_WIDTH: usize = KIND_PLACE + 1;
 
 const MOST_ROWS: usize = 8192;
 
@@ -47,6 +47,12 @@ pub enum Refusal {
 pub enum Found {
     Row(usize),
     Nothing,
+}
+
+// The BIC of a head office: so many characters of the text. Of a BIC shorter than an institution's it is shorter.
+pub struct HeadOffice {
+    pub text: [u8; BIC_WIDTH],
+    pub length: usize,
 }
 
 // What a question of the table is answered with.
@@ -113,7 +119,8 @@ fn date_at(table: &[u8], at: usize) -> u32
     wire::number(&table[at..end]) as u32
 }
 
-fn counts(date: u32, table: &[u8], i: usize) -> bool
+// Whether row i counts on the date.
+pub fn counts(date: u32, table: &[u8], i: usize) -> bool
     requires { ⌜ rowAt i + rowWidth ≤ length (now table) ⌝ }
     ensures { λ r. ⌜ r ≡ counts date (now (table .entry)) i ⌝ }
 {
@@ -121,13 +128,20 @@ fn counts(date: u32, table: &[u8], i: usize) -> bool
         & (date <= date_at(table, COUNT_WIDTH + ROW_WIDTH * i + LAST_DATE_PLACE))
 }
 
+pub fn bic_at(table: &[u8], i: usize) -> &[u8]
+    requires { ⌜ rowAt i + rowWidth ≤ length (now table) ⌝ }
+    ensures { λ r. ⌜ now r ≡ bicAt (now (table .entry)) i ⌝ }
+{
+    let at = COUNT_WIDTH + ROW_WIDTH * i;
+    let end = at + BIC_WIDTH;
+    &table[at..end]
+}
+
 fn bears(date: u32, table: &[u8], bic: &[u8], i: usize) -> bool
     requires { ⌜ rowAt i + rowWidth ≤ length (now table) ⌝ }
     ensures { λ r. ⌜ r ≡ bears date (now (table .entry)) (now (bic .entry)) i ⌝ }
 {
-    let at = COUNT_WIDTH + ROW_WIDTH * i;
-    let end = at + BIC_WIDTH;
-    if texts::same(&table[at..end], bic) {
+    if texts::same(bic_at(table, i), bic) {
         counts(date, table, i)
     } else {
         false
@@ -149,15 +163,31 @@ pub fn row_of(date: u32, table: &[u8], bic: &[u8]) -> Found
     Found::Nothing
 }
 
-// The same for the head office: the first eight characters followed by XXX.
+// The BIC of the head office: the first eight characters followed by XXX.
+pub fn head_office(bic: &[u8]) -> HeadOffice
+    ensures { λ r. ⌜ HeadTold (now (bic .entry)) r ⌝ }
+{
+    let mut text = [b'X'; BIC_WIDTH];
+    let front = wire::text_at(bic, 0, INSTITUTION_WIDTH);
+    let length = front.len() + BRANCH_WIDTH;
+    writing::put_text(&mut text, 0, front);
+    HeadOffice { text, length }
+}
+
+pub fn is_head_office(bic: &[u8]) -> bool
+    ensures { λ r. ⌜ r ≡ isHeadOffice (now (bic .entry)) ⌝ }
+{
+    texts::same(wire::text_at(bic, INSTITUTION_WIDTH, BRANCH_WIDTH), b"XXX")
+}
+
+// The same for the head office.
 pub fn head_office_row(date: u32, table: &[u8], bic: &[u8]) -> Found
     ensures { λ r. ⌜ RowTold (now (table .entry)) (optionOf r) (headOfficeRow date (now (table .entry)) (now (bic .entry))) ⌝ }
 {
-    let mut head = [b'X'; BIC_WIDTH];
-    let front = wire::text_at(bic, 0, INSTITUTION_WIDTH);
-    let n = front.len() + BRANCH_WIDTH;
-    writing::put_text(&mut head, 0, front);
-    row_of(date, table, &head[..n])
+    let head = head_office(bic);
+    let text = head.text;
+    let n = head.length;
+    row_of(date, table, &text[..n])
 }
 
 // The row of a BIC: its own, else that of its head office.
@@ -168,7 +198,7 @@ pub fn route(date: u32, table: &[u8], bic: &[u8]) -> Found
     match own {
         Found::Row(i) => Found::Row(i),
         Found::Nothing => {
-            if texts::same(wire::text_at(bic, INSTITUTION_WIDTH, BRANCH_WIDTH), b"XXX") {
+            if is_head_office(bic) {
                 Found::Nothing
             } else {
                 head_office_row(date, table, bic)

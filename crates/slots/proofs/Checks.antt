@@ -17,7 +17,7 @@ use Rattle.slots.specs.Slots.{names, searched, builtTo}
 use Rattle.slots.specs.Asked.{taken}
 use Rattle.slots.proofs.Walks.{names-true, names-told, names-none}
 use Rattle.slots.proofs.Under.{Under, under-taken, under-full, taken-more}
-use Rattle.slots.proofs.Filled.{Filled, built-filled, steps, steps-inside, place-inside, place-holds, place-empty}
+use Rattle.slots.proofs.Filled.{Filled, every, built-filled, steps, steps-inside, place-inside, place-holds, place-empty}
 use Rattle.slots.proofs.Masks.{seen, masked, seen-low, seen-high, seen-is, masked-length, masked-get, masked-most, masked-all, masked-later, masked-under, masked-more, masked-put, masked-steps, masked-place, masked-name, place-met}
 
 -- ---- the check
@@ -161,13 +161,13 @@ masked-built number keys n (suc j) k h =
     let low : k + j ≤ n = omega arith in
     rw (add-suc k j) (by-test (masked-built number keys n j k low) (built-filled number keys n (k + j) low) (names (k + j) (nameOf number keys (builtTo number keys n (k + j)) (k + j))) refl)
   where
-    by-test : masked k (builtTo number keys n (k + j)) ≡ builtTo number keys n k → Filled number keys n (k + j) (builtTo number keys n (k + j))
+    by-test : masked k (builtTo number keys n (k + j)) ≡ builtTo number keys n k → Filled every number keys n (k + j) (builtTo number keys n (k + j))
         → (t : Bool) → names (k + j) (nameOf number keys (builtTo number keys n (k + j)) (k + j)) ≡ t → masked k (builtTo number keys n (suc (k + j))) ≡ builtTo number keys n k
     by-test rest f true e = rw (built-old number keys n (k + j) e) rest
     by-test rest f false e =
         let room : k + j < n = omega arith in
         rw (built-new number keys n (k + j) e)
-        (masked-later k (builtTo number keys n (k + j)) (placeOf number keys (builtTo number keys n (k + j)) (k + j)) (k + j + 1) (omega arith) (place-empty number keys n (k + j) (builtTo number keys n (k + j)) f room e) ∙ rest)
+        (masked-later k (builtTo number keys n (k + j)) (placeOf number keys (builtTo number keys n (k + j)) (k + j)) (k + j + 1) (omega arith) (place-empty every number keys n (k + j) (builtTo number keys n (k + j)) f room e) ∙ rest)
 
 module _ (number : List ℕ → ℕ) (keys : ℕ → List ℕ) (n m : ℕ) (xs : List ℕ) (long : length xs ≡ n) (fit : m ≤ n) (view : (k : ℕ) → k ≤ m → masked k xs ≡ builtTo number keys n k) where
   -- the check of key k tells what was done when it was added
@@ -184,7 +184,7 @@ module _ (number : List ℕ → ℕ) (keys : ℕ → List ℕ) (n m : ℕ) (xs :
       room : k < n
       room = omega arith
 
-      filled : Filled number keys n k (builtTo number keys n k)
+      filled : Filled every number keys n k (builtTo number keys n k)
       filled = built-filled number keys n k (omega arith)
 
       name-seen : nameOf number keys (builtTo number keys n k) k ≡ seen k (nameOf number keys xs k)
@@ -194,7 +194,7 @@ module _ (number : List ℕ → ℕ) (keys : ℕ → List ℕ) (n m : ℕ) (xs :
       place-same = rw (← here) (sym (masked-place number keys k (keys k) xs))
 
       short : steps number keys k (keys k) xs < length xs
-      short = rw (← (masked-steps number keys k (keys k) xs), here) (omega (arith, steps-inside number keys n k (builtTo number keys n k) filled room, filled .long, long))
+      short = rw (← (masked-steps number keys k (keys k) xs), here) (omega (arith, steps-inside every number keys n k (builtTo number keys n k) filled room, filled .long, long))
 
       by-test : (t : Bool) → names k (nameOf number keys (builtTo number keys n k) k) ≡ t → Step k
       by-test true e =
@@ -207,14 +207,14 @@ module _ (number : List ℕ → ℕ) (keys : ℕ → List ℕ) (n m : ℕ) (xs :
           }
       by-test false e =
           let at : ℕ = placeOf number keys (builtTo number keys n k) k in
-          let inside : at < length (builtTo number keys n k) = place-inside number keys k (keys k) (builtTo number keys n k) (steps-inside number keys n k (builtTo number keys n k) filled room) in
+          let inside : at < length (builtTo number keys n k) = place-inside number keys k (keys k) (builtTo number keys n k) (steps-inside every number keys n k (builtTo number keys n k) filled room) in
           let held : getD (builtTo number keys n (suc k)) at 0 ≡ k + 1 = rw (built-new number keys n k e) (getD-set-same (builtTo number keys n k) at (k + 1) 0 inside) in
           let told : seen (suc k) (getD xs at 0) ≡ k + 1 = sym (masked-get (suc k) xs at) ∙ ap (λ (l : List ℕ). getD l at 0) (view (suc k) h) ∙ held in
           let is : nameOf number keys xs k ≡ k + 1 = sym (place-holds number keys k (keys k) xs short) ∙ ap (λ (i : ℕ). getD xs i 0) place-same ∙ seen-is (suc k) (getD xs at 0) (k + 1) told (λ z. omega arith) .0 in
           record {
             fine = names-true (k + 1) (nameOf number keys xs k) (λ z. omega (arith, is)) (omega (arith, is));
             count = rw (eq-eqb (nameOf number keys xs k) (k + 1) is, built-new number keys n k e)
-                (taken-more (builtTo number keys n k) at (k + 1) inside (place-empty number keys n k (builtTo number keys n k) filled room e) (λ z. omega arith));
+                (taken-more (builtTo number keys n k) at (k + 1) inside (place-empty every number keys n k (builtTo number keys n k) filled room e) (λ z. omega arith));
           }
 
   all-fine : (j k : ℕ) → k + j ≡ m → everyFrom (fitsAt number keys xs) j k ≡ true

@@ -1,11 +1,12 @@
 -- What the functions on slots ask of their callers and tell them. Contract plumbing. Assumes nothing.
-use Prim.Native.Nat.{ℕ, suc, _+_, _*_, _≤_, _<_}
+use Prim.Native.Nat.{ℕ, suc, _+_, _-_, _*_, _≤_, _<_}
 use mathlib.Core.Path.{_≡_}
 use mathlib.Core.Bool.{cond}
 use mathlib.Core.List.{List, [], _∷_}
+use mathlib.Core.Option.{Option, none, some}
 use lib.Dec.{eqb}
 use lib.ListN.{length}
-use Rattle.slots.specs.Slots.{End}
+use Rattle.slots.specs.Slots.{End, names}
 use Rattle.slots.specs.Stored.{slotWidth, slotCount}
 use Rattle.slots.specs.declared.Layout.{Layout}
 use Rattle.slots.specs.declared.Ended.{Ended}
@@ -26,3 +27,7 @@ endOf e = record { place = e .place; name = e .name; read = e .read }
 unfoldable pub taken : List ℕ → ℕ
 taken [] = 0
 taken (x ∷ xs) = cond (eqb x 0) (taken xs) (suc (taken xs))
+
+-- the record that a slot's content names among the first bound ones, if it names one
+abbrev pub namedBy : ℕ → ℕ → Option ℕ
+namedBy bound name = cond (names bound name) (some (name - 1)) none

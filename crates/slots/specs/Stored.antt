@@ -1,7 +1,7 @@
 -- Slots in lent bytes, and keys in records: where each stands, a search, and the index of the first so many records. Every definition is
 -- total. Assumes nothing.
 use Prim.Native.Nat.{ℕ, zero, suc, _+_, _*_, _/_, min}
-use mathlib.Core.Bool.{cond}
+use mathlib.Core.Bool.{Bool, cond}
 use mathlib.Core.List.{List, [], _∷_}
 use lib.ListN.{length, replicate}
 use lib.Seq.{sets}
@@ -65,3 +65,10 @@ unfoldable pub builtIn : Layout → List ℕ → ℕ → ℕ → List ℕ
 builtIn layout records bytes zero = replicate bytes 0
 builtIn layout records bytes (suc k) =
     added (searchedIn layout records k (keyIn layout records k) (builtIn layout records bytes k)) k (builtIn layout records bytes k)
+
+-- the same of those among them that a test picks out; the others are in no slot
+unfoldable pub pickedIn : (ℕ → Bool) → Layout → List ℕ → ℕ → ℕ → List ℕ
+pickedIn picks layout records bytes zero = replicate bytes 0
+pickedIn picks layout records bytes (suc k) =
+    let before = pickedIn picks layout records bytes k in
+    cond (picks k) (added (searchedIn layout records k (keyIn layout records k) before) k before) before

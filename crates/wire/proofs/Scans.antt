@@ -55,6 +55,35 @@ module _ (f : ℕ → Bool) where
       by-test rest true here found = let same : i ≡ k = cc in (omega arith, omega arith, rw (← same) here)
       by-test rest false here found = let later = rest found in (omega arith, omega arith, later .2)
 
+  -- a place at which the test holds, and at none before it
+  first-at : (n i k : ℕ) → i ≤ k → k < i + n → f k ≡ true → ((j : ℕ) → j < k → f j ≡ true → ⊥) → firstFrom f n i ≡ some k
+  unfolding firstFrom
+  first-at zero i k low high is earlier = absurd (omega arith)
+  first-at (suc n) i k low high is earlier = by-test (first-at n (suc i) k) (f i) refl
+    where
+      by-test : (suc i ≤ k → k < suc i + n → f k ≡ true → ((j : ℕ) → j < k → f j ≡ true → ⊥) → firstFrom f n (suc i) ≡ some k)
+          → (t : Bool) → f i ≡ t → cond t (some i) (firstFrom f n (suc i)) ≡ some k
+      by-test rest true here = ⊎-elim (λ (q : i ≡ k). rw q) (λ (l : i < k). absurd (earlier i l here)) (eq-or-lt-of-le low)
+      by-test rest false here = ⊎-elim
+          (λ (q : i ≡ k). absurd (false≢true (sym here ∙ (rw q is))))
+          (λ (l : i < k). rest l (omega arith) is earlier)
+          (eq-or-lt-of-le low)
+
+  pub first-is : (n k : ℕ) → k < n → f k ≡ true → ((j : ℕ) → j < k → f j ≡ true → ⊥) → firstFrom f n 0 ≡ some k
+  first-is n k l is earlier = first-at n 0 k (omega arith) (omega arith) is earlier
+
+  nowhere : (n i : ℕ) → ((j : ℕ) → j < i + n → f j ≡ true → ⊥) → firstFrom f n i ≡ none
+  unfolding firstFrom
+  nowhere zero i fails = refl
+  nowhere (suc n) i fails = by-test (nowhere n (suc i) (λ j l. fails j (omega arith))) (f i) refl
+    where
+      by-test : firstFrom f n (suc i) ≡ none → (t : Bool) → f i ≡ t → cond t (some i) (firstFrom f n (suc i)) ≡ none
+      by-test rest true here = absurd (fails i (omega arith) here)
+      by-test rest false here = rest
+
+  pub first-none : (n : ℕ) → ((j : ℕ) → j < n → f j ≡ true → ⊥) → firstFrom f n 0 ≡ none
+  first-none n fails = nowhere n 0 (λ j l. fails j (omega arith))
+
   pub every-holds : (n i k : ℕ) → everyFrom f n i ≡ true → i ≤ k → k < i + n → f k ≡ true
   unfolding everyFrom
   every-holds zero i k e low high = absurd (omega arith)

@@ -18,16 +18,16 @@ returns c =
 
 returns-2 : tie.Need-returns-2
 returns-2 c =
-    let args = c .before .before .before .before .before .before .before .before .before .args in
-    let own = ap optionOf (sym (c .before .before .before .before .enum-told .given .1)) ∙ c .before .before .before .before .before .before .row-of .ensures .is in
-    record { is = route-nowhere (args .date) (args .table .now) (args .bic .now) own (cc); within = tt }
+    let args = c .before .before .before .before .before .before .before .args in
+    let own = ap optionOf (sym (c .before .before .enum-told .given .1)) ∙ c .before .before .before .before .row-of .ensures .is in
+    record { is = route-nowhere (args .date) (args .table .now) (args .bic .now) own (sym (c .before .is-head-office .ensures) ∙ c .if1 .taken); within = tt }
 
 returns-3 : tie.Need-returns-3
 returns-3 c =
-    let args = c .before .before .before .before .before .before .before .before .before .before .args in
-    let own = ap optionOf (sym (c .before .before .before .before .before .enum-told .given .1)) ∙ c .before .before .before .before .before .before .before .row-of .ensures .is in
+    let args = c .before .before .before .before .before .before .before .before .args in
+    let own = ap optionOf (sym (c .before .before .before .enum-told .given .1)) ∙ c .before .before .before .before .before .row-of .ensures .is in
     let head = c .head-office-row .ensures in
-    record { is = head .is ∙ route-head (args .date) (args .table .now) (args .bic .now) own (cc); within = head .within }
+    record { is = head .is ∙ route-head (args .date) (args .table .now) (args .bic .now) own (sym (c .before .before .is-head-office .ensures) ∙ c .before .if1 .left); within = head .within }
 
 pub route-spec : {M : Type 1} → statement M
-route-spec = tie.close (tie.spec (λ c κs. search needs) (λ c. search needs) (λ c. search needs) (λ c κs. search needs) (λ c. search needs) (λ c κs. search needs) (λ c κs. search needs) returns returns-2 returns-3)
+route-spec = tie.close (tie.spec (λ c κs. search needs) (λ c. search needs) (λ c. search needs) (λ c κs. search needs) (λ c κs. search needs) returns returns-2 returns-3)
