@@ -11,6 +11,8 @@ use lib.Seq.{sets}
 use Rattle.wire.specs.Field.{bytesOf}
 use Rattle.wire.proofs.Numbers.{bytes-length}
 use Rattle.wire.proofs.Stores.{sets-then}
+use Rattle.routing.specs.Promise.{Formed}
+use Rattle.routing.proofs.Laws.{formed-told}
 use Rattle.sheet.specs.Sheet.{bulkCount, messageCount}
 use Rattle.tally.specs.Room.{mostCounted}
 use Rattle.report.specs.Line.{countWidth, bulkLineWidth, firstLine, sectionsPlace, reportLength}
@@ -64,6 +66,9 @@ module _ (indexed : Bool) (call : Call) (index : List ℕ) (checked : Checked) w
     entries-ready =
         let m = passed .1 in
         record { spare = record { formed = clear .formed; left = rw (m .bulkCount, m .messageCount) (clear .room) }; kept = all-clear .1 }
+
+    pub table-formed : Formed (call .table)
+    table-formed = formed-told (call .table) true (sym (clear .table)) .formed refl
 
     pub both-few : (contents .bulks ≤ mostCounted) × (contents .messages ≤ mostCounted)
     both-few = (let b = few .bulks in let m = few .messages in (omega arith, omega arith))

@@ -2,6 +2,7 @@
 ghost use mathlib.Core.Path.{_≡_};
 ghost use Prim.Native.Nat.{_+_};
 ghost use Rattle.index.specs.Ready.{Ready, AnewReady};
+ghost use Rattle.directory.specs.Ready.{Made};
 ghost use Rattle.tally.specs.Tally.{totalsOf};
 ghost use Rattle.messages.specs.Ready.{stateOf, SectionReady};
 ghost use Rattle.judging.specs.Judgement.{bulkOutcome};
@@ -60,6 +61,7 @@ fn judge_bulk(
     terms: Terms,
     sheet: &[u8],
     table: &[u8],
+    directory: &[u8],
     indexed: bool,
     register: &mut [u8],
     index: &mut [u8],
@@ -69,14 +71,14 @@ fn judge_bulk(
     section: Section,
     places: Places,
 ) -> u64
-    requires { ⌜ (HeaderReady (now sheet) (now table) (now positions) header) × (SectionReady (now sheet) (header .kind) section) × (BulkSpace (now report) (section .number) places) × (Ready indexed (now register) (now index) (section .number + 1)) ⌝ }
+    requires { ⌜ (HeaderReady (now sheet) (now table) (now positions) header) × (SectionReady (now sheet) (header .kind) section) × (BulkSpace (now report) (section .number) places) × (Ready indexed (now register) (now index) (section .number + 1)) × (Made (terms .date) (now table) (now directory)) ⌝ }
     ensures { λ r. ⌜ BulkTold terms (now (table .entry)) indexed (bulkIn (now (sheet .entry)) header section) (stateOf (now (register .entry)) (now (positions .entry))) (now (index .entry)) (now (report .entry)) places (now (register .exit)) (now (index .exit)) (now (positions .exit)) (now (report .exit)) r ⌝ }
 {
     let sender = header.sender(sheet);
     let identifier = header.identifier(sheet);
     let key = register::key_of(sender, identifier, register::BULK);
     let sought = index::seek(indexed, register, index, &key);
-    let row = routing::head_office_row(terms.date, table, sender);
+    let row = directory::head_office_row(terms.date, table, directory, sender);
     let sum = messages::sum_of(sheet, header.kind, section);
     let n = section.number;
     let faults = faults::bulk_faults(
@@ -97,6 +99,7 @@ fn judge_bulk(
         terms,
         sheet,
         table,
+        directory,
         indexed,
         register,
         index,
@@ -129,6 +132,7 @@ pub(crate) fn judge_bulks(
     terms: Terms,
     sheet: &[u8],
     table: &[u8],
+    directory: &[u8],
     indexed: bool,
     register: &mut [u8],
     index: &mut [u8],
@@ -136,7 +140,7 @@ pub(crate) fn judge_bulks(
     report: &mut [u8],
     contents: Contents,
 ) -> u64
-    requires { ⌜ (BulksReady (now sheet) (now table) (now positions) (now report) contents) × (Ready indexed (now register) (now index) (contents .bulks + contents .messages)) ⌝ }
+    requires { ⌜ (BulksReady (now sheet) (now table) (now positions) (now report) contents) × (Ready indexed (now register) (now index) (contents .bulks + contents .messages)) × (Made (terms .date) (now table) (now directory)) ⌝ }
     ensures { λ r. ⌜ BulksTold terms (now (sheet .entry)) (now (table .entry)) indexed (contents .bulks) (stateOf (now (register .entry)) (now (positions .entry))) (now (index .entry)) (now (report .entry)) (now (register .exit)) (now (index .exit)) (now (positions .exit)) (now (report .exit)) r ⌝ }
 {
     let bulks = contents.bulks;
@@ -152,6 +156,7 @@ pub(crate) fn judge_bulks(
             terms,
             sheet,
             table,
+            directory,
             indexed,
             register,
             index,

@@ -59,10 +59,13 @@ fn judge_by(
         },
         Checked::Fine(contents) => {
             report::put_count(report, 0, contents.bulks);
+            let mut directory = [0u8; directory::LENGTH];
+            directory::make(terms.date, table, &mut directory);
             let slots = bulks::judge_bulks(
                 terms,
                 sheet,
                 table,
+                &directory,
                 indexed,
                 register,
                 index,

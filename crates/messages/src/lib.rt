@@ -6,6 +6,7 @@ ghost use lib.ListN.{length};
 ghost use Rattle.routing.specs.Lookup.{optionOf};
 ghost use Rattle.sheet.specs.Reading.{headerIn, messageIn};
 ghost use Rattle.index.specs.Ready.{Ready};
+ghost use Rattle.directory.specs.Ready.{Made};
 ghost use Rattle.positions.specs.Positions.{pays};
 ghost use Rattle.tally.specs.Tally.{centsOf, totalsOf, withAccepted, withRejected};
 ghost use Rattle.report.specs.Line.{messageLineWidth};
@@ -109,6 +110,7 @@ fn judge_message(
     terms: Terms,
     sheet: &[u8],
     table: &[u8],
+    directory: &[u8],
     indexed: bool,
     register: &mut [u8],
     index: &mut [u8],
@@ -118,7 +120,7 @@ fn judge_message(
     message: Message,
     to: usize,
 ) -> Verdict
-    requires { ⌜ (RulingReady terms (now sheet) (now table) (now positions) ruling) × (MessageReady (now sheet) message (now out) to) × (Ready indexed (now register) (now index) 1) ⌝ }
+    requires { ⌜ (RulingReady terms (now sheet) (now table) (now positions) ruling) × (MessageReady (now sheet) message (now out) to) × (Ready indexed (now register) (now index) 1) × (Made (terms .date) (now table) (now directory)) ⌝ }
     ensures { λ r. ⌜ MessageTold terms (now (table .entry)) (headerIn (now (sheet .entry)) (ruling .header)) (ruling .fallen) indexed (messageIn (now (sheet .entry)) message) (stateOf (now (register .entry)) (now (positions .entry))) (now (index .entry)) to (now (out .entry)) (now (register .exit)) (now (index .exit)) (now (positions .exit)) (now (out .exit)) r ⌝ }
 {
     let header = ruling.header;
@@ -127,7 +129,7 @@ fn judge_message(
     let identifier = message.identifier(sheet);
     let key = register::key_of(header.sender(sheet), identifier, register::MESSAGE);
     let sought = index::seek(indexed, register, index, &key);
-    let found = routing::route(terms.date, table, message.receiver(sheet));
+    let found = directory::route(terms.date, table, directory, message.receiver(sheet));
     let faults = faults::message_faults(terms, sheet, table, header, message, found, sought.there);
     report::put_message_line(out, to, identifier, message_outcome(fallen, faults), faults);
     let ended = sought.ended;
@@ -152,6 +154,7 @@ pub fn judge_messages(
     terms: Terms,
     sheet: &[u8],
     table: &[u8],
+    directory: &[u8],
     indexed: bool,
     register: &mut [u8],
     index: &mut [u8],
@@ -160,7 +163,7 @@ pub fn judge_messages(
     ruling: Ruling,
     section: Section,
 ) -> Counts
-    requires { ⌜ (RulingReady terms (now sheet) (now table) (now positions) ruling) × (SectionReady (now sheet) (ruling .header .kind) section) × (messageLineWidth * section .number ≤ length (now out)) × (Ready indexed (now register) (now index) (section .number)) ⌝ }
+    requires { ⌜ (RulingReady terms (now sheet) (now table) (now positions) ruling) × (SectionReady (now sheet) (ruling .header .kind) section) × (messageLineWidth * section .number ≤ length (now out)) × (Ready indexed (now register) (now index) (section .number)) × (Made (terms .date) (now table) (now directory)) ⌝ }
     ensures { λ r. ⌜ MessagesTold terms (now (table .entry)) (headerIn (now (sheet .entry)) (ruling .header)) (ruling .fallen) indexed (messagesOf (now (sheet .entry)) (ruling .header .kind) section) (stateOf (now (register .entry)) (now (positions .entry))) (now (index .entry)) (now (out .entry)) (now (register .exit)) (now (index .exit)) (now (positions .exit)) (now (out .exit)) r ⌝ }
 {
     let header = ruling.header;
@@ -178,6 +181,7 @@ pub fn judge_messages(
             terms,
             sheet,
             table,
+            directory,
             indexed,
             register,
             index,

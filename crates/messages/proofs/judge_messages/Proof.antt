@@ -14,28 +14,28 @@ use Rattle.messages.proofs.judge_messages.Statement.{statement}
 use Rattle.messages.proofs.judge_messages.Tie as tie
 
 abbrev Inv-loop : tie.InvT-loop
-Inv-loop terms sheet table indexed register₀ index₀ positions₀ out₀ ruling kind n at tally₀ slots₀ cursor₀ j₀ register index positions out tally slots cursor j =
+Inv-loop terms sheet table directory indexed register₀ index₀ positions₀ out₀ ruling kind n at tally₀ slots₀ cursor₀ j₀ register index positions out tally slots cursor j =
     MessagesLeft terms table (headerIn sheet (ruling .header)) (ruling .fallen) indexed kind sheet at n (stateOf register₀ positions₀) index₀ out₀ register index positions out (totalsOf tally) slots (cursor .at) j
 
 abbrev μ-loop : tie.MeasureT-loop
-μ-loop terms sheet table indexed register₀ index₀ positions₀ out₀ ruling kind n at tally₀ slots₀ cursor₀ j₀ register index positions out tally slots cursor j = n - j
+μ-loop terms sheet table directory indexed register₀ index₀ positions₀ out₀ ruling kind n at tally₀ slots₀ cursor₀ j₀ register index positions out tally slots cursor j = n - j
 
 loop-holds : tie.Need-loop-holds Inv-loop μ-loop
-loop-holds c = messages-start _ _ _ _ _ _ _ _ _ _ _ _ _ (c .new .ensures) (c .before .before .before .before .before .before .before .before .pre .3)
+loop-holds c = messages-start _ _ _ _ _ _ _ _ _ _ _ _ _ (c .new .ensures) (c .before .before .before .before .before .before .before .before .before .pre .3)
 
 message-requires : tie.Need-message-requires Inv-loop μ-loop
 message-requires c κs =
-    let start = c .before .before .before .before .before .before .before .before .before .before in
+    let start = c .before .before .before .before .before .before .before .before .before .before .before in
     let a = start .args in
     let l = c .before .loop in
     message-within (a .terms) (a .table .now) (headerIn (a .sheet .now) (a .ruling .header)) (a .ruling .fallen) (a .indexed) (a .ruling .header .kind) (a .sheet .now) (a .section .at) (a .section .number) (stateOf (a .register .now) (a .positions .now)) (a .index .now) (a .out .now) (l .register) (l .index) (l .positions) (l .out) (totalsOf (l .tally)) (l .slots) (l .cursor .at) (l .j) (l .inv) (start .pre .1) (c .loop-test .taken)
 
 line-place-requires : tie.Need-line-place-requires Inv-loop μ-loop
-line-place-requires c κs = few-words _ _ (c .before .loop-test .taken) (c .before .before .before .before .before .before .before .before .before .before .before .pre .1 .few)
+line-place-requires c κs = few-words _ _ (c .before .loop-test .taken) (c .before .before .before .before .before .before .before .before .before .before .before .before .pre .1 .few)
 
 judge-message-requires : tie.Need-judge-message-requires Inv-loop μ-loop
 judge-message-requires c κs =
-    let start = c .before .before .before .before .before .before .before .before .before .before .before .before .before .before .before .before in
+    let start = c .before .before .before .before .before .before .before .before .before .before .before .before .before .before .before .before .before in
     let a = start .args in
     let l = c .before .before .before .before .before .before .before .loop in
     let low = c .before .before .before .before .before .before .loop-test .taken in (
@@ -44,18 +44,19 @@ judge-message-requires c κs =
           (message-within (a .terms) (a .table .now) (headerIn (a .sheet .now) (a .ruling .header)) (a .ruling .fallen) (a .indexed) (a .ruling .header .kind) (a .sheet .now) (a .section .at) (a .section .number) (stateOf (a .register .now) (a .positions .now)) (a .index .now) (a .out .now) (l .register) (l .index) (l .positions) (l .out) (totalsOf (l .tally)) (l .slots) (l .cursor .at) (l .j) (l .inv) (start .pre .1) low)
           (rw (c .before .before .before .before .line-place .ensures) (line-space (a .terms) (a .table .now) (headerIn (a .sheet .now) (a .ruling .header)) (a .ruling .fallen) (a .indexed) (a .ruling .header .kind) (a .sheet .now) (a .section .at) (a .section .number) (stateOf (a .register .now) (a .positions .now)) (a .index .now) (a .out .now) (l .register) (l .index) (l .positions) (l .out) (totalsOf (l .tally)) (l .slots) (l .cursor .at) (l .j) (l .inv) (start .pre .2) low)),
       message-place (a .terms) (a .table .now) (headerIn (a .sheet .now) (a .ruling .header)) (a .ruling .fallen) (a .indexed) (a .ruling .header .kind) (a .sheet .now) (a .section .at) (a .section .number) (stateOf (a .register .now) (a .positions .now)) (a .index .now) (a .out .now) (l .register) (l .index) (l .positions) (l .out) (totalsOf (l .tally)) (l .slots) (l .cursor .at) (l .j) (l .inv) low,
+      start .pre .4,
     )
 
 count-message-requires : tie.Need-count-message-requires Inv-loop μ-loop
 count-message-requires c κs =
-    let start = c .before .before .before .before .before .before .before .before .before .before .before .before .before .before .before .before .before .before .before .before .before .before .before .before .before in
+    let start = c .before .before .before .before .before .before .before .before .before .before .before .before .before .before .before .before .before .before .before .before .before .before .before .before .before .before in
     let a = start .args in
     let l = c .before .before .before .before .before .before .before .before .before .before .before .before .before .before .before .before .loop in
     count-ready (a .terms) (a .table .now) (headerIn (a .sheet .now) (a .ruling .header)) (a .ruling .fallen) (a .indexed) (a .ruling .header .kind) (a .sheet .now) (a .section .at) (a .section .number) (stateOf (a .register .now) (a .positions .now)) (a .index .now) (a .out .now) (l .register) (l .index) (l .positions) (l .out) (totalsOf (l .tally)) (l .slots) (l .cursor .at) (l .j) (l .inv) (start .pre .1) (c .before .before .before .before .before .before .before .before .before .before .before .before .before .before .before .loop-test .taken)
 
 add-slots : tie.Need-add-slots Inv-loop μ-loop
 add-slots c =
-    let start = c .before .before .before .before .before .before .before .before .before .before .before .before .before .before .before .before .before .before .before .before .before .before .before .before .before .before .before in
+    let start = c .before .before .before .before .before .before .before .before .before .before .before .before .before .before .before .before .before .before .before .before .before .before .before .before .before .before .before .before in
     let a = start .args in
     let l = c .before .before .before .before .before .before .before .before .before .before .before .before .before .before .before .before .before .before .loop in
     let read = c .before .before .before .before .before .before .before .before .before .before .before .before .before .before .before .before .message .ensures in
@@ -63,22 +64,22 @@ add-slots c =
     record { fits = slots-room (a .terms) (a .table .now) (headerIn (a .sheet .now) (a .ruling .header)) (a .ruling .fallen) (a .indexed) (a .ruling .header .kind) (a .sheet .now) (a .section .at) (a .section .number) (stateOf (a .register .now) (a .positions .now)) (a .index .now) (a .out .now) (l .register) (l .index) (l .positions) (l .out) (totalsOf (l .tally)) (l .slots) (l .cursor .at) (l .j) (l .inv) (start .pre .1 .few) (c .before .before .before .before .before .before .before .before .before .before .before .before .before .before .before .before .before .loop-test .taken) _ (judged .slots) }
 
 add-j : tie.Need-add-j Inv-loop μ-loop
-add-j c = record { fits = step-fits _ _ (c .before .before .before .before .before .before .before .before .before .before .before .before .before .before .before .before .before .before .loop-test .taken) (few-fits _ (c .before .before .before .before .before .before .before .before .before .before .before .before .before .before .before .before .before .before .before .before .before .before .before .before .before .before .before .before .pre .1 .few)) }
+add-j c = record { fits = step-fits _ _ (c .before .before .before .before .before .before .before .before .before .before .before .before .before .before .before .before .before .before .loop-test .taken) (few-fits _ (c .before .before .before .before .before .before .before .before .before .before .before .before .before .before .before .before .before .before .before .before .before .before .before .before .before .before .before .before .before .pre .1 .few)) }
 
 loop-less : tie.Need-loop-less Inv-loop μ-loop
 loop-less c = omega arith
 
 loop-again : tie.Need-loop-again Inv-loop μ-loop
 loop-again c =
-    let start = c .before .before .before .before .before .before .before .before .before .before .before .before .before .before .before .before .before .before .before .before .before .before .before .before .before .before .before .before in
+    let start = c .before .before .before .before .before .before .before .before .before .before .before .before .before .before .before .before .before .before .before .before .before .before .before .before .before .before .before .before .before in
     let a = start .args in
     let l = c .before .before .before .before .before .before .before .before .before .before .before .before .before .before .before .before .before .before .before .loop in
     let read = c .before .before .before .before .before .before .before .before .before .before .before .before .before .before .before .before .before .message .ensures in
     let judged = c .before .before .before .before .before .before .before .before .before .before .before .judge-message in
-    let word = amount-word (a .ruling .header .kind) (a .sheet .now) (l .cursor .at) _ (λ i. c .before .before .before .before .before .before .before .before .before .before .before .before .before .before .before .before .before .before .before .before .before .before .before .before .before .before .before .shared-slice-known .given i .fits) (read .amount) in
+    let word = amount-word (a .ruling .header .kind) (a .sheet .now) (l .cursor .at) _ (λ i. c .before .before .before .before .before .before .before .before .before .before .before .before .before .before .before .before .before .before .before .before .before .before .before .before .before .before .before .before .shared-slice-known .given i .fits) (read .amount) in
     messages-turn (a .terms) (a .table .now) (headerIn (a .sheet .now) (a .ruling .header)) (a .ruling .fallen) (a .indexed) (a .ruling .header .kind) (a .sheet .now) (a .section .at) (a .section .number) (stateOf (a .register .now) (a .positions .now)) (a .index .now) (a .out .now) (l .register) (l .index) (l .positions) (l .out) (totalsOf (l .tally)) (l .slots) (l .cursor .at) (l .j) (l .inv) (start .pre .1) (c .before .before .before .before .before .before .before .before .before .before .before .before .before .before .before .before .before .before .loop-test .taken) _ _ _ _ _
     (rw (read .place, read .kind, c .before .before .before .before .before .before .before .before .before .before .before .before .before .before .before .before .line-place .ensures) at (judged .ensures))
-    (judged .kept .1 .1 .1 .1 .0) (judged .kept .1 .1 .1 .1 .1 .0) (judged .kept .1 .1 .1 .1 .1 .1 .0) (judged .kept .1 .1 .1 .1 .1 .1 .1 .0) _ (read .amount) word _ (c .before .before .count-message .ensures) _ refl _ (read .moved)
+    (judged .kept .1 .1 .1 .1 .1 .0) (judged .kept .1 .1 .1 .1 .1 .1 .0) (judged .kept .1 .1 .1 .1 .1 .1 .1 .0) (judged .kept .1 .1 .1 .1 .1 .1 .1 .1 .0) _ (read .amount) word _ (c .before .before .count-message .ensures) _ refl _ (read .moved)
 
 same-length : tie.Need-same-length Inv-loop μ-loop
 same-length c = c .before .loop .inv .registerWide
@@ -94,7 +95,7 @@ same-length-4 c = c .before .loop .inv .outWide
 
 returns : tie.Need-returns Inv-loop μ-loop
 returns c =
-    let a = c .before .before .before .before .before .before .before .before .before .before .args in
+    let a = c .before .before .before .before .before .before .before .before .before .before .before .args in
     let l = c .before .loop in
     messages-end (a .terms) (a .table .now) (headerIn (a .sheet .now) (a .ruling .header)) (a .ruling .fallen) (a .indexed) (a .ruling .header .kind) (a .sheet .now) (a .section .at) (a .section .number) (stateOf (a .register .now) (a .positions .now)) (a .index .now) (a .out .now) (l .register) (l .index) (l .positions) (l .out) (totalsOf (l .tally)) (l .slots) (l .cursor .at) (l .j) (l .inv) (c .loop-test .left) _ refl refl
 

@@ -20,45 +20,48 @@ use Rattle.judging.proofs.bulks.judge_bulk.Tie as tie
 
 key-of-requires : tie.Need-key-of-requires
 key-of-requires c κs =
-    let start = c .before .before .before .before .before .before .before .before in
+    let start = c .before .before .before .before .before .before .before .before .before in
     let a = start .args in
     bulk-parts (a .terms) (a .sheet .now) (a .table .now) (a .positions .now) (a .header) (start .pre .0) _ _ (c .before .sender .ensures) (c .identifier .ensures)
 
 seek-requires : tie.Need-seek-requires
 seek-requires c κs =
-    let start = c .before .before .before .before .before .before .before .before .before .before .before .before in
+    let start = c .before .before .before .before .before .before .before .before .before .before .before .before .before in
     let a = start .args in
     ready-for (a .indexed) (a .register .now) (a .index .now) (a .section .number) (start .pre .3) 0 (omega arith)
 
+head-office-row-requires : tie.Need-head-office-row-requires
+head-office-row-requires c κs = c .before .before .before .before .before .before .before .before .before .before .before .before .before .before .pre .4
+
 bulk-faults-requires : tie.Need-bulk-faults-requires
 bulk-faults-requires c κs =
-    let start = c .before .before .before .before .before .before .before .before .before .before .before .before .before .before .before in
+    let start = c .before .before .before .before .before .before .before .before .before .before .before .before .before .before .before .before in
     let a = start .args in
     bulk-asked (a .terms) (a .sheet .now) (a .table .now) (a .positions .now) (a .header) (start .pre .0) _ (c .before .before .before .before .before .before .before .before .sender .ensures) (c .before .head-office-row .result) (c .before .head-office-row .ensures)
 
 lines-at-requires : tie.Need-lines-at-requires
 lines-at-requires c κs =
-    let start = c .before .before .before .before .before .before .before .before .before .before .before .before .before .before .before .before .before .before .before .before in
+    let start = c .before .before .before .before .before .before .before .before .before .before .before .before .before .before .before .before .before .before .before .before .before in
     let a = start .args in
     omega (arith, lent-within (a .report .now) (a .section .number) (a .places) (start .pre .2) (a .report .now) refl, start .good)
 
 sub-judge-messages : tie.Need-sub-judge-messages
 sub-judge-messages c =
-    let start = c .before .before .before .before .before .before .before .before .before .before .before .before .before .before .before .before .before .before .before .before .before .before .before .before in
+    let start = c .before .before .before .before .before .before .before .before .before .before .before .before .before .before .before .before .before .before .before .before .before .before .before .before .before in
     let a = start .args in
     let counted = c .before .before .before .before .before .before .put-count in
     rw (c .before .before .before .lines-at .ensures) (lent-within (a .report .now) (a .section .number) (a .places) (start .pre .2) (counted .last .0) (counted .kept .0))
 
 part-judge-messages-start : tie.Need-part-judge-messages-start
 part-judge-messages-start c =
-    let start = c .before .before .before .before .before .before .before .before .before .before .before .before .before .before .before .before .before .before .before .before .before .before .before .before in
+    let start = c .before .before .before .before .before .before .before .before .before .before .before .before .before .before .before .before .before .before .before .before .before .before .before .before .before in
     let a = start .args in
     let counted = c .before .before .before .before .before .before .put-count in
     rw (c .before .before .before .lines-at .ensures) (lent-within (a .report .now) (a .section .number) (a .places) (start .pre .2) (counted .last .0) (counted .kept .0))
 
 judge-messages-requires : tie.Need-judge-messages-requires
 judge-messages-requires c κs =
-    let start = c .before .before .before .before .before .before .before .before .before .before .before .before .before .before .before .before .before .before .before .before .before .before .before .before .before in
+    let start = c .before .before .before .before .before .before .before .before .before .before .before .before .before .before .before .before .before .before .before .before .before .before .before .before .before .before in
     let a = start .args in
     let office = c .before .before .before .before .before .before .before .before .before .before .before .head-office-row in
     let counted = c .before .before .before .before .before .before .before .put-count in (
@@ -66,11 +69,12 @@ judge-messages-requires c κs =
       start .pre .1,
       lent-space (a .report .now) (a .section .number) (a .places) (start .pre .2) (counted .last .0) _ (counted .kept .0) (c .before .before .before .before .lines-at .ensures),
       ready-for (a .indexed) (a .register .now) (a .index .now) (a .section .number) (start .pre .3) (a .section .number) (omega arith),
+      start .pre .4,
     )
 
 put-bulk-line-requires : tie.Need-put-bulk-line-requires
 put-bulk-line-requires c κs =
-    let start = c .before .before .before .before .before .before .before .before .before .before .before .before .before .before .before .before .before .before .before .before .before .before .before .before .before .before .before .before .before .before .before .before .before .before .before .before .before in
+    let start = c .before .before .before .before .before .before .before .before .before .before .before .before .before .before .before .before .before .before .before .before .before .before .before .before .before .before .before .before .before .before .before .before .before .before .before .before .before .before in
     let a = start .args in
     let faults = c .before .before .before .before .before .before .before .before .before .before .before .before .before .before .before .before .before .before .before .before .before .bulk-faults in
     let counted = c .before .before .before .before .before .before .before .before .before .before .before .before .before .before .before .before .before .before .before .put-count in
@@ -82,13 +86,13 @@ put-bulk-line-requires c κs =
 
 slice-aggregate-record-bulk : tie.Need-slice-aggregate-record-bulk
 slice-aggregate-record-bulk c =
-    let start = c .before .before .before .before .before .before .before .before .before .before .before .before .before .before .before .before .before .before .before .before .before .before .before .before .before .before .before .before .before .before .before .before .before .before .before .before .before .before .before .before .before .before .before in
+    let start = c .before .before .before .before .before .before .before .before .before .before .before .before .before .before .before .before .before .before .before .before .before .before .before .before .before .before .before .before .before .before .before .before .before .before .before .before .before .before .before .before .before .before .before .before in
     let a = start .args in
     sym (key-wide (a .terms) (a .sheet .now) (a .table .now) (a .positions .now) (a .header) (start .pre .0) _ _ _ (c .before .before .before .before .before .before .before .before .before .before .before .before .before .before .before .before .before .before .before .before .before .before .before .before .before .before .before .before .before .before .before .before .before .before .before .before .sender .ensures) (c .before .before .before .before .before .before .before .before .before .before .before .before .before .before .before .before .before .before .before .before .before .before .before .before .before .before .before .before .before .before .before .before .before .before .before .identifier .ensures) (c .before .before .before .before .before .before .before .before .before .before .before .before .before .before .before .before .before .before .before .before .before .before .before .before .before .before .before .before .before .before .before .before .before .before .key-of .ensures))
 
 record-bulk-requires : tie.Need-record-bulk-requires
 record-bulk-requires c κs =
-    let start = c .before .before .before .before .before .before .before .before .before .before .before .before .before .before .before .before .before .before .before .before .before .before .before .before .before .before .before .before .before .before .before .before .before .before .before .before .before .before .before .before .before .before .before in
+    let start = c .before .before .before .before .before .before .before .before .before .before .before .before .before .before .before .before .before .before .before .before .before .before .before .before .before .before .before .before .before .before .before .before .before .before .before .before .before .before .before .before .before .before .before .before in
     let a = start .args in
     let judged = c .before .before .before .before .before .before .before .before .before .before .before .before .before .before .before .before .before .judge-messages in
     record {
@@ -98,14 +102,14 @@ record-bulk-requires c κs =
 
 add-result-2 : tie.Need-add-result-2
 add-result-2 c =
-    let start = c .before .before .before .before .before .before .before .before .before .before .before .before .before .before .before .before .before .before .before .before .before .before .before .before .before .before .before .before .before .before .before .before .before .before .before .before .before .before .before .before .before .before .before .before .before .before .before .before .before .before .before in
+    let start = c .before .before .before .before .before .before .before .before .before .before .before .before .before .before .before .before .before .before .before .before .before .before .before .before .before .before .before .before .before .before .before .before .before .before .before .before .before .before .before .before .before .before .before .before .before .before .before .before .before .before .before .before in
     let a = start .args in
     let most = slots-small (a .terms) (a .table .now) _ _ (a .indexed) (a .sheet .now) (a .header .kind) (a .section) _ _ _ _ _ _ _ (c .before .before .before .before .before .before .before .before .before .before .before .before .before .before .before .before .before .before .before .before .before .before .before .before .before .judge-messages .result) (start .pre .1 .few) (c .before .before .before .before .before .before .before .before .before .before .before .before .before .before .before .before .before .before .before .before .before .before .before .before .before .judge-messages .ensures) in
     record { fits = omega (arith, most) }
 
 returns : tie.Need-returns
 returns c =
-    let a = c .before .before .before .before .before .before .before .before .before .before .before .before .before .before .before .before .before .before .before .before .before .before .before .before .before .before .before .before .before .before .before .before .before .before .before .before .before .before .before .before .before .before .before .before .before .before .before .before .before .before .before .args in
+    let a = c .before .before .before .before .before .before .before .before .before .before .before .before .before .before .before .before .before .before .before .before .before .before .before .before .before .before .before .before .before .before .before .before .before .before .before .before .before .before .before .before .before .before .before .before .before .before .before .before .before .before .before .before .args in
     let faults = c .before .before .before .before .before .before .before .before .before .before .before .before .before .before .before .before .before .before .before .before .before .before .before .before .before .before .before .before .before .before .before .before .before .before .before .bulk-faults in
     let counted = c .before .before .before .before .before .before .before .before .before .before .before .before .before .before .before .before .before .before .before .before .before .before .before .before .before .before .before .before .before .before .before .before .before .put-count in
     let lines = c .before .before .before .before .before .before .before .before .before .before .before .before .before .before .before .before .before .before .before .before .before .before .before .before .before .before .before .before .before .before .lines-at in
@@ -115,17 +119,17 @@ returns c =
     _ _ _ _ (counted .ensures) (middle-lent (counted .last .0) (lines .result) 0 (linesAt (a .places .section)) (judgeMessages (a .terms) (a .table .now) (headerIn (a .sheet .now) (a .header)) (not (eqb (faults .result) 0)) (messagesOf (a .sheet .now) (a .header .kind) (a .section)) (stateOf (a .register .now) (a .positions .now)) .lines) _ (place-there _ _ (lines .ensures)) (c .before .before .before .before .before .before .before .before .before .before .before .before .before .before .before .before .before .before .before .before .before .before .before .before .before .judge-messages .ensures .lines)) (c .before .before .before .before .before .before .before .before .before .before .before .before .before .before .bulk-outcome .ensures) (c .before .before .before .before .before .before .before .before .before .before .before .before .before .put-bulk-line .ensures)
 
 same-length : tie.Need-same-length
-same-length c = c .before .before .before .before .before .before .before .record-bulk .kept .1 .0 ∙ c .before .before .before .before .before .before .before .before .before .before .before .before .before .before .before .before .before .before .before .before .before .before .before .before .before .judge-messages .kept .1 .1 .1 .1 .0
+same-length c = c .before .before .before .before .before .before .before .record-bulk .kept .1 .0 ∙ c .before .before .before .before .before .before .before .before .before .before .before .before .before .before .before .before .before .before .before .before .before .before .before .before .before .judge-messages .kept .1 .1 .1 .1 .1 .0
 
 same-length-2 : tie.Need-same-length-2
-same-length-2 c = c .before .before .before .before .before .before .before .record-bulk .kept .1 .1 .0 ∙ c .before .before .before .before .before .before .before .before .before .before .before .before .before .before .before .before .before .before .before .before .before .before .before .before .before .judge-messages .kept .1 .1 .1 .1 .1 .0
+same-length-2 c = c .before .before .before .before .before .before .before .record-bulk .kept .1 .1 .0 ∙ c .before .before .before .before .before .before .before .before .before .before .before .before .before .before .before .before .before .before .before .before .before .before .before .before .before .judge-messages .kept .1 .1 .1 .1 .1 .1 .0
 
 same-length-3 : tie.Need-same-length-3
-same-length-3 c = c .before .before .before .before .before .before .before .before .before .before .before .before .before .before .before .before .before .before .before .before .before .before .before .before .before .judge-messages .kept .1 .1 .1 .1 .1 .1 .0
+same-length-3 c = c .before .before .before .before .before .before .before .before .before .before .before .before .before .before .before .before .before .before .before .before .before .before .before .before .before .judge-messages .kept .1 .1 .1 .1 .1 .1 .1 .0
 
 same-length-4 : tie.Need-same-length-4
 same-length-4 c =
-    let a = c .before .before .before .before .before .before .before .before .before .before .before .before .before .before .before .before .before .before .before .before .before .before .before .before .before .before .before .before .before .before .before .before .before .before .before .before .before .before .before .before .before .before .before .before .before .before .before .before .before .before .before .args in
+    let a = c .before .before .before .before .before .before .before .before .before .before .before .before .before .before .before .before .before .before .before .before .before .before .before .before .before .before .before .before .before .before .before .before .before .before .before .before .before .before .before .before .before .before .before .before .before .before .before .before .before .before .before .before .args in
     let faults = c .before .before .before .before .before .before .before .before .before .before .before .before .before .before .before .before .before .before .before .before .before .before .before .before .before .before .before .before .before .before .before .before .before .before .before .bulk-faults in
     let counted = c .before .before .before .before .before .before .before .before .before .before .before .before .before .before .before .before .before .before .before .before .before .before .before .before .before .before .before .before .before .before .before .before .before .put-count in
     let lines = c .before .before .before .before .before .before .before .before .before .before .before .before .before .before .before .before .before .before .before .before .before .before .before .before .before .before .before .before .before .before .lines-at in
@@ -135,4 +139,4 @@ same-length-4 c =
     ∙ counted .kept .0
 
 pub judge-bulk-spec : {M : Type 1} → statement M
-judge-bulk-spec = tie.close (tie.spec (λ c κs. search needs) (λ c κs. search needs) key-of-requires (λ c. search needs) seek-requires (λ c κs. search needs) (λ c κs. search needs) bulk-faults-requires (λ c κs. search needs) lines-at-requires sub-judge-messages part-judge-messages-start (λ c. search needs) judge-messages-requires (λ c κs. search needs) put-bulk-line-requires slice-aggregate-record-bulk record-bulk-requires (λ c. search needs) (λ c. search needs) (λ c. search needs) add-result-2 same-length same-length-2 same-length-3 same-length-4 returns)
+judge-bulk-spec = tie.close (tie.spec (λ c κs. search needs) (λ c κs. search needs) key-of-requires (λ c. search needs) seek-requires head-office-row-requires (λ c κs. search needs) bulk-faults-requires (λ c κs. search needs) lines-at-requires sub-judge-messages part-judge-messages-start (λ c. search needs) judge-messages-requires (λ c κs. search needs) put-bulk-line-requires slice-aggregate-record-bulk record-bulk-requires (λ c. search needs) (λ c. search needs) (λ c. search needs) add-result-2 same-length same-length-2 same-length-3 same-length-4 returns)

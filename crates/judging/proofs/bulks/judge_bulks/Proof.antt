@@ -9,18 +9,18 @@ use Rattle.judging.proofs.bulks.judge_bulks.Statement.{statement}
 use Rattle.judging.proofs.bulks.judge_bulks.Tie as tie
 
 abbrev Inv-loop : tie.InvT-loop
-Inv-loop terms sheet table indexed register₀ index₀ positions₀ report₀ bulks walk₀ places₀ slots₀ k₀ register index positions report walk places slots k =
+Inv-loop terms sheet table directory indexed register₀ index₀ positions₀ report₀ bulks walk₀ places₀ slots₀ k₀ register index positions report walk places slots k =
     BulksLeft terms table sheet indexed bulks (stateOf register₀ positions₀) index₀ report₀ register index positions report slots (walk .heads .at) (walk .bodies .at) (places .line) (places .section) k
 
 abbrev μ-loop : tie.MeasureT-loop
-μ-loop terms sheet table indexed register₀ index₀ positions₀ report₀ bulks walk₀ places₀ slots₀ k₀ register index positions report walk places slots k = bulks - k
+μ-loop terms sheet table directory indexed register₀ index₀ positions₀ report₀ bulks walk₀ places₀ slots₀ k₀ register index positions report walk places slots k = bulks - k
 
 first-requires : tie.Need-first-requires Inv-loop μ-loop
-first-requires c κs = sections-within _ _ _ _ _ (c .before .before .before .before .before .before .before .before .pre .0)
+first-requires c κs = sections-within _ _ _ _ _ (c .before .before .before .before .before .before .before .before .before .pre .0)
 
 loop-holds : tie.Need-loop-holds Inv-loop μ-loop
 loop-holds c =
-    let start = c .before .before .before .before .before .before .before .before .before in
+    let start = c .before .before .before .before .before .before .before .before .before .before in
     let a = start .args in
     let walk = c .before .before .start .ensures in
     let places = c .first .ensures in
@@ -28,13 +28,13 @@ loop-holds c =
 
 bulk-requires : tie.Need-bulk-requires Inv-loop μ-loop
 bulk-requires c κs =
-    let a = c .before .before .before .before .before .before .before .before .before .before .before .args in
+    let a = c .before .before .before .before .before .before .before .before .before .before .before .before .args in
     let l = c .before .loop in
     bulk-inside (a .terms) (a .table .now) (a .sheet .now) (a .indexed) (a .contents .bulks) (stateOf (a .register .now) (a .positions .now)) (a .index .now) (a .report .now) (l .register) (l .index) (l .positions) (l .report) (l .slots) (l .walk .heads .at) (l .walk .bodies .at) (l .places .line) (l .places .section) (l .k) (l .inv) (c .loop-test .taken)
 
 judge-bulk-requires : tie.Need-judge-bulk-requires Inv-loop μ-loop
 judge-bulk-requires c κs =
-    let start = c .before .before .before .before .before .before .before .before .before .before .before .before .before .before .before .before .before .before in
+    let start = c .before .before .before .before .before .before .before .before .before .before .before .before .before .before .before .before .before .before .before in
     let a = start .args in
     let l = c .before .before .before .before .before .before .before .before .loop in
     let low = c .before .before .before .before .before .before .before .loop-test .taken in
@@ -43,11 +43,12 @@ judge-bulk-requires c κs =
       section-ready (a .terms) (a .table .now) (a .sheet .now) (a .indexed) (a .contents .bulks) (stateOf (a .register .now) (a .positions .now)) (a .index .now) (a .report .now) (l .register) (l .index) (l .positions) (l .report) (l .slots) (l .walk .heads .at) (l .walk .bodies .at) (l .places .line) (l .places .section) (l .k) (l .inv) low (read .result) (read .ensures),
       bulk-space (a .terms) (a .table .now) (a .sheet .now) (a .indexed) (a .contents .bulks) (stateOf (a .register .now) (a .positions .now)) (a .index .now) (a .report .now) (l .register) (l .index) (l .positions) (l .report) (l .slots) (l .walk .heads .at) (l .walk .bodies .at) (l .places .line) (l .places .section) (l .k) (l .inv) low (read .result) (read .ensures) (l .places) refl refl,
       bulk-places (a .terms) (a .table .now) (a .sheet .now) (a .indexed) (a .contents .bulks) (stateOf (a .register .now) (a .positions .now)) (a .index .now) (a .report .now) (l .register) (l .index) (l .positions) (l .report) (l .slots) (l .walk .heads .at) (l .walk .bodies .at) (l .places .line) (l .places .section) (l .k) (l .inv) low (read .result) (read .ensures),
+      start .pre .2,
     )
 
 add-slots : tie.Need-add-slots Inv-loop μ-loop
 add-slots c =
-    let a = c .before .before .before .before .before .before .before .before .before .before .before .before .before .before .before .before .before .before .before .before .before .before .before .before .before .before .before .args in
+    let a = c .before .before .before .before .before .before .before .before .before .before .before .before .before .before .before .before .before .before .before .before .before .before .before .before .before .before .before .before .args in
     let l = c .before .before .before .before .before .before .before .before .before .before .before .before .before .before .before .before .before .loop in
     let low = c .before .before .before .before .before .before .before .before .before .before .before .before .before .before .before .before .loop-test .taken in
     let read = c .before .before .before .before .before .before .before .before .before .before .before .before .before .before .before .bulk in
@@ -56,24 +57,24 @@ add-slots c =
 
 next-requires : tie.Need-next-requires Inv-loop μ-loop
 next-requires c κs =
-    let a = c .before .before .before .before .before .before .before .before .before .before .before .before .before .before .before .before .before .before .before .before .before .before .before .before .before .before .before .before .before .args in
+    let a = c .before .before .before .before .before .before .before .before .before .before .before .before .before .before .before .before .before .before .before .before .before .before .before .before .before .before .before .before .before .before .args in
     let l = c .before .before .before .before .before .before .before .before .before .before .before .before .before .before .before .before .before .before .before .loop in
     let low = c .before .before .before .before .before .before .before .before .before .before .before .before .before .before .before .before .before .before .loop-test .taken in
     let taken = c .before .before .before .before .before .before .before .before .before .before .before .before .before .before .before .before .before .bulk .ensures in
     let judged = c .before .before .before .before .before .before .before .before .before .before .judge-bulk in (
-      line-within (a .terms) (a .table .now) (a .sheet .now) (a .indexed) (a .contents .bulks) (stateOf (a .register .now) (a .positions .now)) (a .index .now) (a .report .now) (l .register) (l .index) (l .positions) (l .report) (l .slots) (l .walk .heads .at) (l .walk .bodies .at) (l .places .line) (l .places .section) (l .k) (l .inv) low (judged .last .1 .1 .1 .1 .1 .1 .1 .0) (judged .kept .1 .1 .1 .1 .1 .1 .1 .0),
-      section-within (a .terms) (a .table .now) (a .sheet .now) (a .indexed) (a .contents .bulks) (stateOf (a .register .now) (a .positions .now)) (a .index .now) (a .report .now) (l .register) (l .index) (l .positions) (l .report) (l .slots) (l .walk .heads .at) (l .walk .bodies .at) (l .places .line) (l .places .section) (l .k) (l .inv) low (judged .last .1 .1 .1 .1 .1 .1 .1 .0) (judged .kept .1 .1 .1 .1 .1 .1 .1 .0) _ (taken .number),
+      line-within (a .terms) (a .table .now) (a .sheet .now) (a .indexed) (a .contents .bulks) (stateOf (a .register .now) (a .positions .now)) (a .index .now) (a .report .now) (l .register) (l .index) (l .positions) (l .report) (l .slots) (l .walk .heads .at) (l .walk .bodies .at) (l .places .line) (l .places .section) (l .k) (l .inv) low (judged .last .1 .1 .1 .1 .1 .1 .1 .1 .0) (judged .kept .1 .1 .1 .1 .1 .1 .1 .1 .0),
+      section-within (a .terms) (a .table .now) (a .sheet .now) (a .indexed) (a .contents .bulks) (stateOf (a .register .now) (a .positions .now)) (a .index .now) (a .report .now) (l .register) (l .index) (l .positions) (l .report) (l .slots) (l .walk .heads .at) (l .walk .bodies .at) (l .places .line) (l .places .section) (l .k) (l .inv) low (judged .last .1 .1 .1 .1 .1 .1 .1 .1 .0) (judged .kept .1 .1 .1 .1 .1 .1 .1 .1 .0) _ (taken .number),
     )
 
 add-k : tie.Need-add-k Inv-loop μ-loop
-add-k c = (let low = c .before .before .before .before .before .before .before .before .before .before .before .before .before .before .before .before .before .before .before .loop-test .taken in let few = c .before .before .before .before .before .before .before .before .before .before .before .before .before .before .before .before .before .before .before .before .before .before .before .before .before .before .before .before .before .before .pre .0 .few .bulks in omega arith)
+add-k c = (let low = c .before .before .before .before .before .before .before .before .before .before .before .before .before .before .before .before .before .before .before .loop-test .taken in let few = c .before .before .before .before .before .before .before .before .before .before .before .before .before .before .before .before .before .before .before .before .before .before .before .before .before .before .before .before .before .before .before .pre .0 .few .bulks in omega arith)
 
 loop-less : tie.Need-loop-less Inv-loop μ-loop
 loop-less c = omega arith
 
 loop-again : tie.Need-loop-again Inv-loop μ-loop
 loop-again c =
-    let a = c .before .before .before .before .before .before .before .before .before .before .before .before .before .before .before .before .before .before .before .before .before .before .before .before .before .before .before .before .before .before .args in
+    let a = c .before .before .before .before .before .before .before .before .before .before .before .before .before .before .before .before .before .before .before .before .before .before .before .before .before .before .before .before .before .before .before .args in
     let l = c .before .before .before .before .before .before .before .before .before .before .before .before .before .before .before .before .before .before .before .before .loop in
     let low = c .before .before .before .before .before .before .before .before .before .before .before .before .before .before .before .before .before .before .before .loop-test .taken in
     let read = c .before .before .before .before .before .before .before .before .before .before .before .before .before .before .before .before .before .before .bulk in
@@ -81,7 +82,7 @@ loop-again c =
     let judged = c .before .before .before .before .before .before .before .before .before .before .before .judge-bulk in
     let moved = c .next2 .ensures in
     bulks-turn (a .terms) (a .table .now) (a .sheet .now) (a .indexed) (a .contents .bulks) (stateOf (a .register .now) (a .positions .now)) (a .index .now) (a .report .now) (l .register) (l .index) (l .positions) (l .report) (l .slots) (l .walk .heads .at) (l .walk .bodies .at) (l .places .line) (l .places .section) (l .k) (l .inv) low _ _ _ _ _ (told-there (a .terms) (a .table .now) (a .sheet .now) (a .indexed) (a .contents .bulks) (stateOf (a .register .now) (a .positions .now)) (a .index .now) (a .report .now) (l .register) (l .index) (l .positions) (l .report) (l .slots) (l .walk .heads .at) (l .walk .bodies .at) (l .places .line) (l .places .section) (l .k) (l .inv) low (read .result) taken (l .places) _ _ _ _ _ refl refl (judged .ensures))
-    (judged .kept .1 .1 .1 .1 .0) (judged .kept .1 .1 .1 .1 .1 .0) (judged .kept .1 .1 .1 .1 .1 .1 .0) (judged .kept .1 .1 .1 .1 .1 .1 .1 .0) _ _ _ _ _ (taken .number) (taken .heads) (taken .bodies) (moved .lineIs) (moved .sectionIs)
+    (judged .kept .1 .1 .1 .1 .1 .0) (judged .kept .1 .1 .1 .1 .1 .1 .0) (judged .kept .1 .1 .1 .1 .1 .1 .1 .0) (judged .kept .1 .1 .1 .1 .1 .1 .1 .1 .0) _ _ _ _ _ (taken .number) (taken .heads) (taken .bodies) (moved .lineIs) (moved .sectionIs)
 
 same-length : tie.Need-same-length Inv-loop μ-loop
 same-length c = c .before .loop .inv .registerWide
@@ -97,7 +98,7 @@ same-length-4 c = c .before .loop .inv .reportWide
 
 returns : tie.Need-returns Inv-loop μ-loop
 returns c =
-    let a = c .before .before .before .before .before .before .before .before .before .before .before .args in
+    let a = c .before .before .before .before .before .before .before .before .before .before .before .before .args in
     let l = c .before .loop in
     bulks-ended (a .terms) (a .table .now) (a .sheet .now) (a .indexed) (a .contents .bulks) (stateOf (a .register .now) (a .positions .now)) (a .index .now) (a .report .now) (l .register) (l .index) (l .positions) (l .report) (l .slots) (l .walk .heads .at) (l .walk .bodies .at) (l .places .line) (l .places .section) (l .k) (l .inv) (c .loop-test .left)
 
