@@ -115,8 +115,7 @@ fn date_at(table: &[u8], at: usize) -> u32
     requires { ⌜ at + dateWidth ≤ length (now table) ⌝ }
     ensures { λ r. ⌜ r ≡ numberAt (now (table .entry)) at dateWidth ⌝ }
 {
-    let end = at + DATE_WIDTH;
-    wire::number(&table[at..end]) as u32
+    wire::four_at(table, at) as u32
 }
 
 // Whether row i counts on the date.

@@ -1,7 +1,7 @@
 -- A search that reads from its start to the last slot, and then from the first slot to its start, ends as the definition says: over
 -- slots as a list, and in bytes. Assumes nothing.
 use mathlib.Core.Path.{_≡_, sym, ap, _∙_}
-use mathlib.Core.Bool.{Bool}
+use mathlib.Core.Bool.{Bool, true}
 use mathlib.Core.List.{List}
 use Prim.Native.Nat.{ℕ, _+_, _-_, _≤_, _<_, min}
 use native.Mathlib.Nat.{zero-add, sub-zero}
@@ -11,6 +11,7 @@ use Rattle.slots.specs.Slots.{startAt, turned, placeAfter, passed, End, 
 use Rattle.slots.specs.Stored.{slotCount, slotAt, slotsFrom, slotsOf}
 use Rattle.slots.proofs.Walks.{start-within, passed-within, passed-first, passed-second, place-near, place-far, place-none, turned-length, turned-get}
 use Rattle.slots.proofs.Stored.{slots-drop, slots-take, slots-many, slots-at}
+use Rattle.slots.proofs.Turns.{stop-here}
 
 abbrev endBy : ℕ → ℕ → ℕ → End
 endBy place name read = record { place = place; name = name; read = read }
@@ -109,3 +110,11 @@ module _ (stops : ℕ → Bool) (index : List ℕ) (v n s first : ℕ) (en : n �
 
     pub search-none : s ≤ second → endBy n 0 n ≡ wanted
     search-none l = rw (← starts, ← many) (ends-nowhere stops (slotsOf index) s low through second second-is l)
+
+-- it stops where it starts
+pub search-here : (stops : ℕ → Bool) (index : List ℕ) (v n s name : ℕ) → n ≡ slotCount index → s ≡ startAt v n → s < n → stops name ≡ true → name ≡ slotAt index s
+    → endBy s name 1 ≡ (let b = startAt v (length (slotsOf index)) in endAfter b (slotsOf index) (passed stops (turned b (slotsOf index))))
+search-here stops index v n s name en es l here e =
+    let one : 1 ≡ s - s + 1 = omega arith in
+    let held : stops (slotAt index s) ≡ true = rw (← e) here in
+    ap (endBy s name) one ∙ search-near stops index v n s s en es (sym (stop-here stops index n s l held)) name l e

@@ -1,4 +1,4 @@
--- A turn of each loop over slots in bytes, and the steps that have none: a slot read, passing slots, clearing, adding, building, counting.
+-- A turn of each loop over slots in bytes, and the steps that have none: passing slots, clearing, adding, building, counting.
 -- Assumes nothing.
 use mathlib.Core.Path.{_≡_, refl, sym, ap, _∙_}
 use mathlib.Core.Bool.{Bool, true, false, cond}
@@ -18,20 +18,6 @@ use Rattle.slots.specs.Stored.{slotCount, slotAt, slotsFrom, slotsOf, pu
 use Rattle.slots.specs.Asked.{taken}
 use Rattle.slots.specs.declared.Layout.{Layout}
 use Rattle.slots.proofs.Stored.{put-length}
-
--- ---- a slot read
-
-four-read : (s : List ℕ) → 4 ≤ length s → getD s 0 0 * 16777216 + getD s 1 0 * 65536 + getD s 2 0 * 256 + getD s 3 0 ≡ numberOf (take 4 s)
-unfolding numberFrom
-four-read s h =
-    omega (arith, number-more s 0 (omega arith), number-more s 1 (omega arith), number-more s 2 (omega arith), number-more s 3 (omega arith))
-
-pub slot-read : (s : List ℕ) (at a b c d : ℕ) → at + 4 ≤ length s → a ≡ getD s at 0 → b ≡ getD s (at + 1) 0 → c ≡ getD s (at + 2) 0
-    → d ≡ getD s (at + 3) 0 → a * 16777216 + b * 65536 + c * 256 + d ≡ numberAt s at 4
-slot-read s at a b c d h ea eb ec ed =
-    let long : 4 ≤ length (drop at s) = rw (length-drop at s) (omega arith) in
-    let first : getD (drop at s) 0 0 ≡ getD s at 0 = getD-drop at s 0 0 ∙ ap (λ (k : ℕ). getD s k 0) (add-zero at) in
-    omega (arith, ea, eb, ec, ed, first, getD-drop at s 1 0, getD-drop at s 2 0, getD-drop at s 3 0, four-read (drop at s) long)
 
 -- ---- passing slots, up to a place
 

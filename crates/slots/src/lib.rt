@@ -46,16 +46,12 @@ fn slot_count(index: &[u8]) -> u32
     wire::least(index.len() / SLOT_WIDTH, MOST_SLOTS) as u32
 }
 
-// The content of a slot. The compiler makes one load of it.
+// The content of a slot.
 fn slot_at(index: &[u8], at: u32) -> u32
     requires { ⌜ slotWidth * at + slotWidth ≤ length (now index) ⌝ }
     ensures { λ r. ⌜ r ≡ slotAt (now (index .entry)) at ⌝ }
 {
-    let i = SLOT_WIDTH * (at as usize);
-    (wide(index[i]) * 16777216
-        + wide(index[i + 1]) * 65536
-        + wide(index[i + 2]) * 256
-        + wide(index[i + 3])) as u32
+    wire::four_at(index, SLOT_WIDTH * (at as usize)) as u32
 }
 
 fn key_in(layout: Layout, records: &[u8], k: u32) -> &[u8]
@@ -138,6 +134,17 @@ pub fn search(layout: Layout, records: &[u8], bound: u32, looked: &[u8], index: 
 {
     let n = slot_count(index);
     let s = start(looked, n);
+    if s < n {
+        // most searches end where they start
+        let name = slot_at(index, s);
+        if stops_at(layout, records, bound, looked, name) {
+            return Ended {
+                place: s,
+                name,
+                read: 1,
+            };
+        }
+    }
     let first = scan(layout, records, bound, looked, index, s, n);
     if first < n {
         return Ended {

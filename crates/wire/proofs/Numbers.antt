@@ -12,7 +12,7 @@ use lib.Arith.{digits-lt, digits-div, digits-mod, mod-mul}
 use lib.Pow.{mod-mod-pow}
 use lib.Dec.{lit<, eqb, ltb}
 use lib.ListN.{length, getD, take, drop, length-append, length-take, length-drop, take-append-drop}
-use lib.Seq.{take-suc, getD-drop}
+use lib.Seq.{take-suc, take-all, getD-drop}
 use borrow.Author.Tests.{lt-ltb, le-ltb, ltb-true, ltb-false, eqb-true, eqb-false}
 use Rattle.wire.proofs.Texts.{take-bytes, drop-bytes, part-bytes, part-short}
 use Rattle.wire.proofs.Sides.{le-or-lt}
@@ -164,6 +164,35 @@ field-read s at n f r bytes short ef er =
     let fits : numberAt s at n % 2 ^ 64 ≡ numberAt s at n = word-fits (part s at n) (part-bytes s at n bytes) (le-trans (part-short s at n) short) in
     let value : r ≡ numberAt s at n = er ∙ ap (λ (l : List ℕ). numberOf l % 2 ^ 64) ef ∙ fits in
     (value, rw value (number-small s at n bytes))
+
+-- ---- four bytes, and eight, as a sum of what each weighs
+
+four-first : (s : List ℕ) → 4 ≤ length s → getD s 0 0 * 16777216 + getD s 1 0 * 65536 + getD s 2 0 * 256 + getD s 3 0 ≡ numberOf (take 4 s)
+unfolding numberFrom
+four-first s h =
+    omega (arith, number-more s 0 (omega arith), number-more s 1 (omega arith), number-more s 2 (omega arith), number-more s 3 (omega arith))
+
+pub four-read : (s : List ℕ) (at a b c d : ℕ) → at + 4 ≤ length s → a ≡ getD s at 0 → b ≡ getD s (at + 1) 0 → c ≡ getD s (at + 2) 0
+    → d ≡ getD s (at + 3) 0 → a * 16777216 + b * 65536 + c * 256 + d ≡ numberAt s at 4
+four-read s at a b c d h ea eb ec ed =
+    let long : 4 ≤ length (drop at s) = rw (length-drop at s) (omega arith) in
+    let first : getD (drop at s) 0 0 ≡ getD s at 0 = getD-drop at s 0 0 ∙ ap (λ (k : ℕ). getD s k 0) (add-zero at) in
+    omega (arith, ea, eb, ec, ed, first, getD-drop at s 1 0, getD-drop at s 2 0, getD-drop at s 3 0, four-first (drop at s) long)
+
+module _ (s : List ℕ) (bytes : Bytes s) where
+  pub four-whole : (a : ℕ) → length s ≡ 4 → a ≡ numberAt s 0 4 → a ≡ numberOf s % 2 ^ 64
+  four-whole a long e =
+      let all : length s ≤ 4 = omega arith in
+      e ∙ ap numberOf (take-all 4 s all) ∙ sym (word-fits s bytes (omega arith))
+
+  pub eight-whole : (a b : ℕ) → length s ≡ 8 → a ≡ numberAt s 0 4 → b ≡ numberAt s 4 4 → a * 4294967296 + b ≡ numberOf s % 2 ^ 64
+  eight-whole a b long ea eb =
+      let short : length (drop 4 s) ≡ 4 = rw (length-drop 4 s) (omega arith) in
+      let all : length (drop 4 s) ≤ 4 = omega arith in
+      let last : b ≡ numberOf (drop 4 s) = eb ∙ ap numberOf (take-all 4 (drop 4 s) all) in
+      let split : numberOf s ≡ numberOf (take 4 s) * 256 ^ length (drop 4 s) + numberOf (drop 4 s) = ap numberOf (sym (take-append-drop 4 s)) ∙ number-append (take 4 s) (drop 4 s) in
+      let weighed : numberOf s ≡ numberOf (take 4 s) * 256 ^ 4 + numberOf (drop 4 s) = rw short at split in
+      (omega (arith, ea, last, weighed)) ∙ sym (word-fits s bytes (omega arith))
 
 -- ten bytes as two words: all but the last eight bytes, and the last eight
 pub halves-read : (f : List ℕ) (high : ℕ) → Bytes f → length f ≤ 10 → high ≡ length f - min 8 (length f)

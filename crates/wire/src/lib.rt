@@ -1,7 +1,8 @@
 // Numbers and text read from bytes. Every function takes any slice and any place: a field that runs past the end is read as what is
 // left of it. So nobody above has to ask first.
 ghost use mathlib.Core.Path.{_≡_};
-ghost use Prim.Native.Nat.{_%_, _^_, min};
+ghost use Prim.Native.Nat.{_+_, _%_, _^_, _≤_, _<_, min};
+ghost use lib.ListN.{length};
 ghost use Rattle.wire.specs.Field.{part, numberOf, numberAt};
 
 // What the count of a section takes.
@@ -13,10 +14,33 @@ pub fn least(a: usize, b: usize) -> usize
     if a < b { a } else { b }
 }
 
-// The number that s writes, highest byte first, modulo 2^64: exact up to eight bytes.
+fn wide(x: u8) -> u64
+    ensures { λ r. ⌜ (r ≡ x) × (r < 256) ⌝ }
+{
+    x as u64
+}
+
+// A number of four bytes that are known to be there. The compiler makes one load of it.
+pub fn four_at(s: &[u8], at: usize) -> u64
+    requires { ⌜ at + 4 ≤ length (now s) ⌝ }
+    ensures { λ r. ⌜ (r ≡ numberAt (now (s .entry)) at 4) × (r < 256 ^ 4) ⌝ }
+{
+    wide(s[at]) * 16777216
+        + wide(s[at + 1]) * 65536
+        + wide(s[at + 2]) * 256
+        + wide(s[at + 3])
+}
+
+// The number that s writes, highest byte first, modulo 2^64: exact up to eight bytes. The widths that are read most take a load or two.
 pub fn number(s: &[u8]) -> u64
     ensures { λ r. ⌜ r ≡ numberOf (now (s .entry)) % 2 ^ 64 ⌝ }
 {
+    if s.len() == 8 {
+        return four_at(s, 0) * 4294967296 + four_at(s, 4);
+    }
+    if s.len() == 4 {
+        return four_at(s, 0);
+    }
     let mut v: u64 = 0;
     let mut i = 0;
     while i < s.len() {
