@@ -1,6 +1,7 @@
 -- The laws that the proofs of the tests share, and those that crates above may cite. Assumes nothing.
+use Prim.Native.Char.{code}
 use mathlib.Core.Path.{_≡_, refl, sym, ap, _∙_}
-use mathlib.Core.Bool.{Bool, true, false, cond, not, _&&_, _||_, false≢true, and-true, and-false, and-assoc}
+use mathlib.Core.Bool.{Bool, true, false, cond, not, _&&_, _||_, false≢true, and-true, and-false, Bool·not-not}
 use mathlib.Core.List.{List, [], _∷_, _++_}
 use Prim.Native.Nat.{ℕ, suc, _+_, _-_, _≤_, _<_}
 use native.Mathlib.Nat.{sub-zero}
@@ -9,7 +10,7 @@ use native.Mathlib.Omega.{arith}
 use lib.Dec.{leb, ltb, eqb, eqb·suc-zero, lit≤}
 use lib.ListN.{length, getD, take, length-take, List·getD-eq-default}
 use lib.Seq.{take-suc}
-use borrow.Author.Tests.{le-leb, lt-leb, ne-eqb, eqb-true, eqb-false, ltb-true, ltb-false}
+use borrow.Author.Tests.{le-leb, lt-leb, ne-eqb, eqb-true, eqb-false, ltb-true, ltb-false, not-true, not-false}
 use Rattle.wire.specs.Places.{everyFrom}
 use Rattle.wire.proofs.Scans.{every-holds, every-fails, every-more, every-ends}
 use Rattle.wording.specs.Wording.{among, allowed, kept, space, isSpace, isSlash, has, every, apart, mostCharacters, spelled, formed}
@@ -17,14 +18,17 @@ use Rattle.wording.specs.Wording.{among, allowed, kept, space, isSpace, 
 -- ---- characters
 
 -- the set as the runs of codes that it lies in
-abbrev pub inRuns : ℕ → Bool
-inRuns c =
-    leb 65 c && leb c 90
-    || leb 97 c && leb c 122
-    || leb 43 c && leb c 58
-    || leb 39 c && leb c 41
-    || eqb c 63
-    || eqb c 32
+abbrev pub marksAndDigits : ℕ → Bool
+marksAndDigits c = leb 43 c && leb c 58
+
+abbrev pub letters : ℕ → Bool
+letters c = leb 65 c && leb c 90 || leb 97 c && leb c 122
+
+abbrev pub others : ℕ → Bool
+others c = leb 39 c && leb c 41 || eqb c 63 || eqb c 32
+
+abbrev inRuns : ℕ → Bool
+inRuns c = cond (marksAndDigits c) true (cond (letters c) true (others c))
 
 abbrev agree : Bool → Bool → Bool
 agree a b = cond a b (not b)
@@ -40,10 +44,20 @@ everyByte : everyFrom (λ c. agree (inRuns c) (allowed c)) 256 0 ≡ true
 unfolding everyFrom allowed among
 everyByte = refl
 
-pub runs-allowed : (c : ℕ) → c < 256 → inRuns c ≡ allowed c
+runs-allowed : (c : ℕ) → c < 256 → inRuns c ≡ allowed c
 runs-allowed c byte =
     agree-equal (inRuns c) (allowed c)
     (every-holds (λ k. agree (inRuns k) (allowed k)) 256 0 c everyByte (omega arith) (omega arith))
+
+module _ (c : ℕ) (byte : c < 256) where
+  pub first-allowed : marksAndDigits c ≡ true → true ≡ allowed c
+  first-allowed e = (rw e at (runs-allowed c byte))
+
+  pub letter-allowed : marksAndDigits c ≡ false → letters c ≡ true → true ≡ allowed c
+  letter-allowed e l = (rw (e, l) at (runs-allowed c byte))
+
+  pub other-allowed : marksAndDigits c ≡ false → letters c ≡ false → others c ≡ allowed c
+  other-allowed e l = (rw (e, l) at (runs-allowed c byte))
 
 -- ---- trailing spaces
 
@@ -91,33 +105,38 @@ kept-within (c ∷ cs) = by-test (kept cs) (kept-within cs) (eqb (kept cs) 0 && 
 
 -- ---- identifiers
 
--- a loop at place i, with a slash just before or not: what is left of the two scans
-abbrev pub runLeft : List ℕ → Bool → ℕ → Bool
-runLeft t after i = every allowed t i (length t) && not (after && has isSlash t i) && everyFrom (apart t) (length t - i) i
+module _ (t : List ℕ) (i : ℕ) where
+  pub no-slash : (getD t i 0 ≡ code "/" → ⊥) → false ≡ not (apart t i)
+  no-slash e = rw (ne-eqb (getD t i 0) (code "/") e)
 
-apart-next : (t : List ℕ) (i : ℕ) → i < length t
-    → everyFrom (apart t) (length t - i) i ≡ (not (has isSlash t i && has isSlash t (i + 1)) && everyFrom (apart t) (length t - (i + 1)) (i + 1))
-unfolding everyFrom
-apart-next t i h = let left : length t - i ≡ suc (length t - (i + 1)) = omega arith in rw (left, add-one i)
+  pub next-slash : getD t i 0 ≡ code "/" → has isSlash t (i + 1) ≡ not (apart t i)
+  next-slash e = (rw (e, add-one i) (sym (Bool·not-not (has isSlash t (suc i)))))
 
-pub run-first : (t : List ℕ) → runLeft t false 0 ≡ spelled t
-run-first t = rw (sub-zero, and-true)
+  pub last-slash : length t ≤ i + 1 → false ≡ not (apart t i)
+  last-slash h =
+      let past : getD t (suc i) 0 ≡ 0 = List·getD-eq-default t 0 (omega arith) in
+      sym (rw (past, and-false (has isSlash t i)))
 
-module _ (t : List ℕ) (after : Bool) (i : ℕ) where
-  pub run-ends : length t ≤ i → true ≡ runLeft t after i
-  run-ends h =
-      let past : getD t i 0 ≡ 0 = List·getD-eq-default t 0 h in
-      sym (rw (every-ends (has allowed t) (length t) i h, every-ends (apart t) (length t) i h, past, and-false after))
+-- a loop at place i: what is left of the two scans
+abbrev pub runLeft : List ℕ → ℕ → Bool
+runLeft t i = every allowed t i (length t) && everyFrom (apart t) (length t - i) i
+
+pub run-first : (t : List ℕ) → runLeft t 0 ≡ spelled t
+run-first t = rw sub-zero
+
+module _ (t : List ℕ) (i : ℕ) where
+  pub run-ends : length t ≤ i → true ≡ runLeft t i
+  run-ends h = sym (rw (every-ends (has allowed t) (length t) i h, every-ends (apart t) (length t) i h))
 
   module _ (h : i < length t) where
-    pub run-other : has allowed t i ≡ false → false ≡ runLeft t after i
+    pub run-other : has allowed t i ≡ false → false ≡ runLeft t i
     run-other e = sym (rw (every-fails (has allowed t) (length t) i h e))
 
-    pub run-second : (after && has isSlash t i) ≡ true → false ≡ runLeft t after i
-    run-second e = sym (rw (e, and-false (every allowed t i (length t))))
+    pub run-second : not (apart t i) ≡ true → false ≡ runLeft t i
+    run-second e = sym (rw (every-fails (apart t) (length t) i h (not-true (apart t i) e), and-false (every allowed t i (length t))))
 
-    pub run-more : has allowed t i ≡ true → (after && has isSlash t i) ≡ false → runLeft t (has isSlash t i) (i + 1) ≡ runLeft t after i
-    run-more here single = rw (single, every-more (has allowed t) (length t) i h here, apart-next t i h, and-true, and-assoc)
+    pub run-more : has allowed t i ≡ true → not (apart t i) ≡ false → runLeft t (i + 1) ≡ runLeft t i
+    run-more here single = rw (every-more (has allowed t) (length t) i h here, every-more (apart t) (length t) i h (not-false (apart t i) single))
 
 -- what the test of the size leaves
 pub size-fits : (n : ℕ) → (eqb n 0 || ltb mostCharacters n) ≡ false → (1 ≤ n) × (n ≤ mostCharacters)

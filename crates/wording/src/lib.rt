@@ -1,17 +1,22 @@
 // How identifiers have to be worded. Each function takes any text and knows nothing of why it is asked.
 ghost use mathlib.Core.Path.{_≡_};
-ghost use Rattle.wording.specs.Wording.{allowed, kept, spelled, formed, badlyFormed};
+ghost use mathlib.Core.Bool.{not};
+ghost use Prim.Native.Nat.{_<_};
+ghost use lib.ListN.{length};
+ghost use Rattle.wording.specs.Wording.{allowed, kept, apart, spelled, formed, badlyFormed};
 
-// Whether a character may stand in an identifier. All marks but one lie in two runs of codes: ' to ), and + to : around the digits.
+// Whether a character may stand in an identifier. Nearly every one is a letter or lies in the run from + to :, the digits and the marks
+// around them; so these are asked first.
 pub fn allowed(c: u8) -> bool
     ensures { λ r. ⌜ r ≡ allowed c ⌝ }
 {
-    ((b'A' <= c) & (c <= b'Z'))
-        | ((b'a' <= c) & (c <= b'z'))
-        | ((b'+' <= c) & (c <= b':'))
-        | ((b'\'' <= c) & (c <= b')'))
-        | (c == b'?')
-        | (c == b' ')
+    if (b'+' <= c) & (c <= b':') {
+        return true;
+    }
+    if ((b'A' <= c) & (c <= b'Z')) | ((b'a' <= c) & (c <= b'z')) {
+        return true;
+    }
+    ((b'\'' <= c) & (c <= b')')) | (c == b'?') | (c == b' ')
 }
 
 // How many characters are left when trailing spaces are dropped.
@@ -28,22 +33,33 @@ pub fn kept(s: &[u8]) -> usize
     0
 }
 
+// Whether a slash at place i is followed by another.
+fn doubled(t: &[u8], i: usize) -> bool
+    requires { ⌜ i < length (now t) ⌝ }
+    ensures { λ r. ⌜ r ≡ not (apart (now (t .entry)) i) ⌝ }
+{
+    if t[i] != b'/' {
+        return false;
+    }
+    if i + 1 < t.len() {
+        t[i + 1] == b'/'
+    } else {
+        false
+    }
+}
+
 // Whether every character may stand in an identifier, and no two slashes stand together.
 fn spelled(t: &[u8]) -> bool
     ensures { λ r. ⌜ r ≡ spelled (now (t .entry)) ⌝ }
 {
-    let mut after = false;
     let mut i = 0;
     while i < t.len() {
-        let c = t[i];
-        if !allowed(c) {
+        if !allowed(t[i]) {
             return false;
         }
-        let slash = c == b'/';
-        if after & slash {
+        if doubled(t, i) {
             return false;
         }
-        after = slash;
         i += 1;
     }
     true
