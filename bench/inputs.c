@@ -55,9 +55,9 @@ static buffer make_table(const sizes *s) {
     return table;
 }
 
-/* One bank in the middle of the table sends everything; where many do, they take turns. */
 static size_t banks(const sizes *s) { return (s->rows + BRANCHES - 1) / BRANCHES; }
 
+/* One bank in the middle of the table sends everything; where many do, they take turns. */
 static uint8_t *sender(uint8_t *at, const sizes *s, size_t turn) {
     uint8_t eleven[11];
     bic(eleven, s->identifiers == MANY ? turn % banks(s) * BRANCHES : s->rows / 2, NULL);
