@@ -7,15 +7,16 @@
 #include <stdlib.h>
 #include <string.h>
 
+#include "rows.h"
 #include "search.h"
 #include "wording.h"
 
 __extension__ typedef unsigned __int128 wide;
 
 enum {
-    HEADER = 65, MESSAGE = 81, ROW = 20, BULK_LINE = 64, POSITION = 8,
-    MOST_ROWS = 8192, MOST_ENTRIES = 60000, MOST_BULKS = 999, MOST_MESSAGES = 15000,
-    PAYMENTS = 1, RETURNS = 3, PARTICIPANT = 5, TAG_MESSAGE = 1, TAG_BULK = 2, NO_ROW = -1
+    HEADER = 65, MESSAGE = 81, BULK_LINE = 64, POSITION = 8,
+    MOST_ENTRIES = 60000, MOST_BULKS = 999, MOST_MESSAGES = 15000,
+    PAYMENTS = 1, RETURNS = 3, PARTICIPANT = 5, TAG_MESSAGE = 1, TAG_BULK = 2
 };
 static const uint64_t MOST_CENTS = 99999999999u;
 static const uint64_t MOST_POSITION = 1000000000000000000u;
@@ -107,37 +108,14 @@ static bool positions_stand(const uint8_t *positions, size_t len, uint64_t messa
 
 /* ---- routing ---- */
 
-static uint8_t kind_of(const uint8_t *table, long row) { return table[4 + ROW * (size_t)row + 19]; }
-
-static long first_row(const uint8_t *table, uint32_t date, const uint8_t bic[BIC]) {
-    uint32_t rows = get32(table);
-    for (uint32_t i = 0; i < rows; i++) {
-        const uint8_t *row = table + 4 + ROW * (size_t)i;
-        if (memcmp(row, bic, BIC) == 0 && get32(row + 11) <= date && date <= get32(row + 15)) return i;
-    }
-    return NO_ROW;
-}
-
-static long head_office_row(const uint8_t *table, uint32_t date, const uint8_t eight[SENDER]) {
-    uint8_t bic[BIC];
-    memcpy(bic, eight, SENDER);
-    memcpy(bic + SENDER, "XXX", 3);
-    return first_row(table, date, bic);
-}
-
-static long receiver_row(const uint8_t *table, uint32_t date, const uint8_t bic[BIC]) {
-    long row = first_row(table, date, bic);
-    if (row != NO_ROW || memcmp(bic + SENDER, "XXX", 3) == 0) return row;
-    return head_office_row(table, date, bic);
-}
-
 tynderaxo_route plain_lookup(uint32_t date, const uint8_t *table, size_t table_len, const uint8_t *bic, size_t bic_len) {
     tynderaxo_route route = {0, 0, 0, 0};
     if (!is_date(date)) route.number = 1;
     else if (!table_stands(table, table_len)) route.number = 2;
     else if (bic_len != BIC) route.number = 18;
     if (route.number != 0) return route;
-    long row = receiver_row(table, date, bic);
+    router rows = {BY_READING, date, table, NULL};
+    long row = receiver_row(&rows, bic);
     if (row == NO_ROW) return route;
     return (tynderaxo_route){0, 1, (uint32_t)row, kind_of(table, row) != 0};
 }
@@ -152,8 +130,8 @@ static void make_entry(uint8_t entry[ENTRY], const uint8_t *sender, const uint8_
 
 /* One bulk with all that its messages are judged by. */
 typedef struct {
-    uint32_t date;
-    const uint8_t *table, *header, *messages;
+    const router *rows;
+    const uint8_t *header, *messages;
     uint32_t count;
     long sender_row;
     uint8_t *positions;
@@ -165,8 +143,8 @@ static uint16_t bulk_faults(const bulk *b, bool stands) {
     wide sum = 0;
     for (uint32_t i = 0; i < b->count; i++) sum += get64(b->messages + MESSAGE * (size_t)i + M_AMOUNT);
     return (uint16_t)((header[H_MARKS] != 3) << 0
-                    | (b->sender_row == NO_ROW || kind_of(b->table, b->sender_row) != PARTICIPANT) << 1
-                    | (get32(header + H_DATE) != b->date) << 2
+                    | (b->sender_row == NO_ROW || kind_of(b->rows->table, b->sender_row) != PARTICIPANT) << 1
+                    | (get32(header + H_DATE) != b->rows->date) << 2
                     | badly_formed(header + H_IDENTIFIER) << 3
                     | stands << 4
                     | (b->count == 0) << 5
@@ -181,7 +159,7 @@ static uint16_t message_faults(const bulk *b, const uint8_t *message, bool stand
     return (uint16_t)(badly_formed(message) << 0
                     | stands << 1
                     | bad_bic(message + M_RECEIVER) << 2
-                    | (row == NO_ROW || kind_of(b->table, row) == 0) << 3
+                    | (row == NO_ROW || kind_of(b->rows->table, row) == 0) << 3
                     | (amount < 1 || amount > MOST_CENTS) << 4
                     | (payment && (original != 0 || !blank(reason, 4) || !blank(name, 15))) << 5
                     | (returned && !known_reason(reason)) << 6
@@ -209,7 +187,7 @@ static uint8_t *judge_bulk(bulk *b, uint8_t *line, uint8_t *section) {
     uint8_t own[ENTRY], entry[ENTRY];
     size_t place = 0;
     make_entry(own, sender, b->header + H_IDENTIFIER, TAG_BULK);
-    b->sender_row = head_office_row(b->table, b->date, sender);
+    b->sender_row = head_office_row(b->rows, sender);
     uint16_t faults = bulk_faults(b, find(b->entries, own, &place));
     uint32_t accepted = 0;
     wide accepted_cents = 0, rejected_cents = 0;
@@ -217,7 +195,7 @@ static uint8_t *judge_bulk(bulk *b, uint8_t *line, uint8_t *section) {
     for (uint32_t i = 0; i < b->count; i++) {
         const uint8_t *message = b->messages + MESSAGE * (size_t)i;
         uint64_t amount = get64(message + M_AMOUNT);
-        long row = receiver_row(b->table, b->date, message + M_RECEIVER);
+        long row = receiver_row(b->rows, message + M_RECEIVER);
         make_entry(entry, sender, message, TAG_MESSAGE);
         uint16_t own_faults = message_faults(b, message, find(b->entries, entry, &place), row);
         int outcome = faults != 0 ? 2 : own_faults != 0 ? 1 : 0;
@@ -245,7 +223,7 @@ static uint8_t *judge_bulk(bulk *b, uint8_t *line, uint8_t *section) {
     return section;
 }
 
-static tynderaxo_indexed_answer judge(finder *entries, size_t index_len, JUDGED) {
+static tynderaxo_indexed_answer judge(finder *entries, way by, size_t index_len, JUDGED) {
     uint64_t bulks = 0, messages = 0;
     uint32_t number = 0;
     if (!is_date(date)) number = 1;
@@ -261,11 +239,14 @@ static tynderaxo_indexed_answer judge(finder *entries, size_t index_len, JUDGED)
     else if (report_len < 4 + 68 * bulks + 38 * messages) number = 11;
     if (number != 0) return (tynderaxo_indexed_answer){number, 0, 0};
 
+    uint16_t names[ROW_HASH_SLOTS];
+    router rows = {by, date, table, names};
+    name_rows(&rows);
     const uint8_t *from = sheet + 4 + HEADER * bulks;
     uint8_t *line = put(report, bulks, 4);
     uint8_t *section = line + BULK_LINE * bulks;
     for (uint64_t i = 0; i < bulks; i++) {
-        bulk b = {date, table, sheet + 4 + HEADER * i, from + 4, get32(from), NO_ROW, positions, entries};
+        bulk b = {&rows, sheet + 4 + HEADER * i, from + 4, get32(from), NO_ROW, positions, entries};
         section = judge_bulk(&b, line, section);
         line += BULK_LINE;
         from += 4 + MESSAGE * (size_t)b.count;
@@ -277,18 +258,24 @@ static tynderaxo_indexed_answer judge(finder *entries, size_t index_len, JUDGED)
 
 tynderaxo_answer plain_judge(JUDGED) {
     finder entries = {BY_READING, reg, NULL, NULL, 0, 0};
-    tynderaxo_indexed_answer answer = judge(&entries, 0, LENT);
+    tynderaxo_indexed_answer answer = judge(&entries, BY_READING, 0, LENT);
     return (tynderaxo_answer){answer.number, answer.length};
 }
 
 tynderaxo_indexed_answer plain_judge_indexed(JUDGED, uint8_t *index, size_t index_len) {
     finder entries = {BY_INDEX, reg, index, NULL, index_len / SLOT, 0};
-    return judge(&entries, index_len, LENT);
+    return judge(&entries, BY_INDEX, index_len, LENT);
+}
+
+tynderaxo_answer plain_judge_routed(JUDGED) {
+    finder entries = {BY_READING, reg, NULL, NULL, 0, 0};
+    tynderaxo_indexed_answer answer = judge(&entries, BY_HASH, 0, LENT);
+    return (tynderaxo_answer){answer.number, answer.length};
 }
 
 tynderaxo_answer plain_judge_hashed(JUDGED, uint32_t *names, size_t slots) {
     finder entries = {BY_HASH, reg, NULL, names, slots, 0};
-    tynderaxo_indexed_answer answer = judge(&entries, 0, LENT);
+    tynderaxo_indexed_answer answer = judge(&entries, BY_HASH, 0, LENT);
     return (tynderaxo_answer){answer.number, answer.length};
 }
 
