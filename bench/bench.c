@@ -1,14 +1,15 @@
 /*
  * Judges one large input in several ways: plain and by an index, by the archive and by the plain C judges.
- *     bench each ROWS ENTRIES BULKS MESSAGES [SHAPE] [falling]
+ *     bench each ROWS ENTRIES BULKS MESSAGES [SHAPE] [SPELLING] [falling]
  *         times each way, compares what they leave, prints the times and the slots read
- *     bench WAY ROWS ENTRIES BULKS MESSAGES [SHAPE] [falling]
- *         runs one way once, for counting instructions: plain or hashed (C, the latter by a hash table), archive or
- *         indexed (the archive's two judges), build (the archive's index once more) or none
- *     SHAPE, of identifiers: leading, short, mixed, many or crowded (inputs.h)
+ *     bench WAY ROWS ENTRIES BULKS MESSAGES [SHAPE] [SPELLING] [falling]
+ *         runs one way once, for counting instructions: plain, hashed or hashing (C, the last two by hash tables), archive
+ *         or indexed (the archive's two judges), routed (C, by a hash table of the rows alone), build (the archive's index
+ *         once more) or none
+ *     SHAPE, of identifiers: leading, short, mixed, many or crowded; SPELLING, of BICs: random or six (inputs.h)
  *
- * Index and hash table are handed over built, so they are built before any way, also before none, whose count is to be
- * taken off the others.
+ * The register's index and its hash table are handed over built, so they are built before any way, also before none, whose
+ * count is to be taken off the others; hashing makes that hash table once more. One of the rows is made in every call.
  */
 #include <stdio.h>
 #include <stdlib.h>
@@ -34,6 +35,11 @@ static tynderaxo_indexed_answer archive(input *in) { return without_slots(tynder
 static tynderaxo_indexed_answer hashed(input *in) {
     return without_slots(plain_judge_hashed(LENT(in), in->names, HASH_SLOTS));
 }
+static tynderaxo_indexed_answer hashing(input *in) {
+    plain_build_hash(in->reg.bytes, in->names, HASH_SLOTS);
+    return hashed(in);
+}
+static tynderaxo_indexed_answer routed(input *in) { return without_slots(plain_judge_routed(LENT(in))); }
 static tynderaxo_indexed_answer indexed(input *in) {
     return tynderaxo_judge_indexed(LENT(in), in->index.bytes, in->index.len);
 }
@@ -50,9 +56,10 @@ static const struct {
     const char *name;
     tynderaxo_indexed_answer (*run)(input *);
     int judges;
-} ways[] = {{"plain", plain, 1},     {"archive", archive, 1}, {"hashed", hashed, 1},
-            {"indexed", indexed, 1}, {"build", build, 0},     {"none", none, 0}};
-enum { WAYS = sizeof ways / sizeof *ways, JUDGES = 4, TIMED = 5 };
+} ways[] = {{"plain", plain, 1},     {"archive", archive, 1}, {"hashed", hashed, 1}, {"hashing", hashing, 1},
+            {"indexed", indexed, 1}, {"build", build, 0},     {"routed", routed, 1}, {"none", none, 0}};
+/* The first ways are timed, and but for the building they are compared. */
+enum { WAYS = sizeof ways / sizeof *ways, JUDGES = 5, TIMED = 6 };
 
 static input prepared(const sizes *s) {
     input in = make_input(s);
@@ -111,29 +118,38 @@ static void run_each(const sizes *s) {
 static const struct {
     const char *name;
     shape identifiers;
-} shapes[] = {{"leading", LEADING}, {"short", SHORT}, {"mixed", MIXED}, {"many", MANY}, {"crowded", CROWDED}};
-enum { SHAPES = sizeof shapes / sizeof *shapes };
+    spelling bics;
+} words[] = {{"leading", LEADING, NUMBERED}, {"short", SHORT, NUMBERED},     {"mixed", MIXED, NUMBERED},
+             {"many", MANY, NUMBERED},       {"crowded", CROWDED, NUMBERED}, {"random", SHARED_FRONT, RANDOM},
+             {"six", SHARED_FRONT, SIX}};
+enum { WORDS = sizeof words / sizeof *words };
 
+/* One word for the identifiers and one for the BICs, as anyone likes. */
 static void take_word(sizes *s, const char *word) {
     if (strcmp(word, "falling") == 0) {
         s->falling = true;
         return;
     }
-    for (int i = 0; i < SHAPES; i++) {
-        if (strcmp(word, shapes[i].name) != 0) continue;
-        if (s->identifiers != SHARED_FRONT) fail("one shape only");
-        s->identifiers = shapes[i].identifiers;
+    for (int i = 0; i < WORDS; i++) {
+        if (strcmp(word, words[i].name) != 0) continue;
+        if (words[i].identifiers != SHARED_FRONT) {
+            if (s->identifiers != SHARED_FRONT) fail("one shape of identifiers only");
+            s->identifiers = words[i].identifiers;
+        } else {
+            if (s->bics != NUMBERED) fail("one spelling of BICs only");
+            s->bics = words[i].bics;
+        }
         return;
     }
-    fail("leading, short, mixed, many, crowded or falling?");
+    fail("leading, short, mixed, many, crowded, random, six or falling?");
 }
 
 int main(int argc, char **argv) {
-    if (argc < 6) fail("usage: bench each|WAY ROWS ENTRIES BULKS MESSAGES [SHAPE] [falling]");
+    if (argc < 6) fail("usage: bench each|WAY ROWS ENTRIES BULKS MESSAGES [SHAPE] [SPELLING] [falling]");
     sizes s = {strtoul(argv[2], NULL, 10), strtoul(argv[3], NULL, 10), strtoul(argv[4], NULL, 10),
-               strtoul(argv[5], NULL, 10), SHARED_FRONT, false};
+               strtoul(argv[5], NULL, 10), SHARED_FRONT, NUMBERED, false};
     for (int i = 6; i < argc; i++) take_word(&s, argv[i]);
-    if (s.rows == 0 || s.bulks == 0 || s.entries + s.bulks + s.messages > ROOM) fail("no such size");
+    if (s.rows == 0 || s.rows > LARGEST_TABLE || s.bulks == 0 || s.entries + s.bulks + s.messages > ROOM) fail("no such size");
     if (strcmp(argv[1], "each") == 0) {
         run_each(&s);
         return 0;
@@ -144,5 +160,5 @@ int main(int argc, char **argv) {
         run(way, &s, &in);
         return 0;
     }
-    fail("plain, archive, hashed, indexed, build or none?");
+    fail("plain, archive, hashed, hashing, indexed, build, routed or none?");
 }

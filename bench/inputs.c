@@ -10,6 +10,9 @@
 
 enum { BRANCHES = 8, SLOTS = 2 * ROOM, MESSAGE = 1, BULK = 2, BULK_SIZE = 16, LETTERS = 62 };
 static const char letters[LETTERS + 1] = "0123456789ABCDEFGHIJKLMNOPQRSTUVWXYZabcdefghijklmnopqrstuvwxyz";
+/* What a BIC may have: at its first six places the first 26, then any. */
+enum { FIRST = 26, ANY = 36 };
+static const char capitals[ANY + 1] = "ABCDEFGHIJKLMNOPQRSTUVWXYZ0123456789";
 
 void fail(const char *why) {
     fprintf(stderr, "bench: %s\n", why);
@@ -33,13 +36,56 @@ uint8_t *number(uint8_t *at, uint64_t value, int width) {
     return at + width;
 }
 
-/* Banks have BRANCHES rows each, the head office first. */
-static uint8_t *bic(uint8_t *at, size_t row, const char *branch) {
-    size_t bank = row / BRANCHES;
-    char value[16], numbered[4] = {'0', '0', (char)('0' + row % BRANCHES), 0};
-    if (branch == NULL) branch = row % BRANCHES == 0 ? "XXX" : numbered;
-    snprintf(value, sizeof value, "B%c%c%cLV22%s", (int)('A' + bank / 676 % 26), (int)('A' + bank / 26 % 26),
-             (int)('A' + bank % 26), branch);
+/* The BICs of a bank's rows, the head office first, and behind them one that has no row. */
+typedef char bank[BRANCHES + 1][11];
+
+static void draw(char *to, int count, unsigned from) {
+    static uint64_t state = 20260615;
+    for (int i = 0; i < count; i++) {
+        state = state * 6364136223846793005u + 1442695040888963407u;
+        to[i] = capitals[(state >> 33) % from];
+    }
+}
+
+static bool stands_before(bank one, int branch) {
+    for (int i = 0; i < branch; i++)
+        if (memcmp(one[i], one[branch], sizeof *one) == 0) return true;
+    return false;
+}
+
+static void draw_bank(bank one) {
+    draw(one[0], 6, FIRST);
+    draw(one[0] + 6, 2, ANY);
+    memcpy(one[0] + 8, "XXX", 3);
+    for (int branch = 1; branch <= BRANCHES; branch++) {
+        memcpy(one[branch], one[0], sizeof *one);
+        while (stands_before(one, branch)) draw(one[branch] + 8, 3, ANY);
+    }
+}
+
+/* With this seed no two banks are equal. */
+static const char *drawn(size_t number, size_t branch) {
+    static bank banks[LARGEST_TABLE / BRANCHES];
+    static size_t filled;
+    while (filled <= number) draw_bank(banks[filled++]);
+    return banks[number][branch];
+}
+
+/* The BIC of a row, or one of its bank that has no row of its own. */
+static uint8_t *bic(uint8_t *at, const sizes *s, size_t row, bool no_row) {
+    size_t bank = row / BRANCHES, branch = no_row ? BRANCHES : row % BRANCHES;
+    char value[16], end[4] = {'0', '0', (char)('0' + branch), 0};
+    if (branch == 0) memcpy(end, "XXX", 3);
+    if (no_row) memcpy(end, "RIX", 3);
+    switch (s->bics) {
+    case RANDOM: memcpy(at, drawn(bank, branch), 11); return at + 11;
+    case SIX:
+        snprintf(value, sizeof value, "BANKLV%c%c%s", capitals[bank / ANY % ANY], capitals[bank % ANY], end);
+        break;
+    default:
+        snprintf(value, sizeof value, "B%c%c%cLV22%s", (int)('A' + bank / 676 % 26), (int)('A' + bank / 26 % 26),
+                 (int)('A' + bank % 26), end);
+    }
     return text(at, value, 11);
 }
 
@@ -47,7 +93,7 @@ static buffer make_table(const sizes *s) {
     buffer table = space(4 + 20 * s->rows);
     uint8_t *at = number(table.bytes, s->rows, 4);
     for (size_t row = 0; row < s->rows; row++) {
-        at = bic(at, row, NULL);
+        at = bic(at, s, row, false);
         at = number(at, 20260101, 4);
         at = number(at, 20991231, 4);
         at = number(at, row % BRANCHES == 0 ? 5 : 6, 1);
@@ -60,7 +106,7 @@ static size_t banks(const sizes *s) { return (s->rows + BRANCHES - 1) / BRANCHES
 /* One bank in the middle of the table sends everything; where many do, they take turns. */
 static uint8_t *sender(uint8_t *at, const sizes *s, size_t turn) {
     uint8_t eleven[11];
-    bic(eleven, s->identifiers == MANY ? turn % banks(s) * BRANCHES : s->rows / 2, NULL);
+    bic(eleven, s, s->identifiers == MANY ? turn % banks(s) * BRANCHES : s->rows / 2, false);
     memcpy(at, eleven, 8);
     return at + 8;
 }
@@ -147,7 +193,7 @@ static uint64_t amount(size_t message) { return 100 + message % 900; }
 static uint8_t *make_message(uint8_t *at, const sizes *s, size_t message, size_t first) {
     size_t row = message * 7919 % s->rows;
     at = identifier(at, s, counted(s, message, s->entries / banks(s) + 1 + message - first), MESSAGE);
-    at = bic(at, row, message % 4 == 0 ? "RIX" : NULL);
+    at = bic(at, s, row, message % 4 == 0);
     at = number(at, amount(message), 8);
     at = number(at, 0, 8);
     at = text(at, "", 4);

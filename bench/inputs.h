@@ -18,12 +18,21 @@
 typedef enum { SHARED_FRONT, LEADING, SHORT, MIXED, MANY, CROWDED } shape;
 
 /*
+ * What tells BICs apart. Each bank has a head office and branches, whatever the spelling.
+ * NUMBERED: three letters of the bank and three characters of the branch, both counted.
+ * RANDOM: all eleven characters, drawn from a fixed seed.
+ * SIX: the last five; the bank has two of them.
+ */
+typedef enum { NUMBERED, RANDOM, SIX } spelling;
+
+/*
  * Every message is accepted, so that each one is searched in the whole register and makes it longer. In a falling file every
  * bulk has wrong marks: no message is added and none pays.
  */
 typedef struct {
     size_t rows, entries, bulks, messages;
     shape identifiers;
+    spelling bics;
     bool falling;
 } sizes;
 
@@ -38,7 +47,7 @@ typedef struct {
     uint32_t *names;
 } input;
 
-enum { ROOM = 60000, HASH_SLOTS = 1 << 17 };
+enum { LARGEST_TABLE = 8192, ROOM = 60000, HASH_SLOTS = 1 << 17 };
 static const uint32_t TODAY = 20260615;
 
 /* The index and the hash table are empty yet. */
