@@ -152,7 +152,8 @@ impl Comparison {
     }
 
     fn routes(&mut self, call: &Call, random: &mut Random) -> Result<(), Failure> {
-        (0..4).try_for_each(|_| self.route(call.date, &call.table, &generate::lookup_bic(random)))
+        let table = &call.table;
+        (0..4).try_for_each(|_| self.route(call.date, table, &generate::lookup_bic(random, table)))
     }
 
     fn lines(&mut self, call: &Call, random: &mut Random) -> Result<(), Failure> {

@@ -73,8 +73,17 @@ impl Maker<'_> {
         (year * 10_000 + random.below(14) * 100 + day) as u32
     }
 
+    /// The sender that every second bulk has.
+    pub fn first_sender(&self) -> Sender {
+        self.crowd.first().map_or(*SENDERS[0], |bic| padded(&bic[..8]))
+    }
+
     pub fn sender(&mut self) -> Sender {
-        let sender = if self.random.one_in(2) { *SENDERS[0] } else { *self.random.pick(&SENDERS) };
+        let sender = match (self.random.one_in(2), self.crowds()) {
+            (true, _) => self.first_sender(),
+            (false, true) => padded(&self.random.pick(&self.crowd)[..8]),
+            (false, false) => *self.random.pick(&SENDERS),
+        };
         if self.spoils() {
             self.altered(sender)
         } else {
@@ -83,13 +92,22 @@ impl Maker<'_> {
     }
 
     pub fn bic(&mut self) -> Bic {
-        let (sender, branch) = (self.random.pick(&SENDERS), self.random.pick(&BRANCHES));
-        let bic = padded(&[&sender[..], &branch[..]].concat());
+        let bic = if self.crowds() {
+            self.random.pick(&self.crowd)
+        } else {
+            let (sender, branch) = (self.random.pick(&SENDERS), self.random.pick(&BRANCHES));
+            padded(&[&sender[..], &branch[..]].concat())
+        };
         if self.spoils() {
             self.altered(bic)
         } else {
             bic
         }
+    }
+
+    /// Whether the next BIC is one of the crowd.
+    fn crowds(&mut self) -> bool {
+        !self.crowd.is_empty() && !self.random.one_in(6)
     }
 
     /// The same field with one byte changed, somewhere.

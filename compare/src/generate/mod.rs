@@ -5,13 +5,14 @@ mod fields;
 mod index;
 pub mod limits;
 mod parts;
+mod rows;
 pub mod sweeps;
 
 use crate::call::{write_positions, Call};
 use crate::cut::{File, Run};
 use crate::program::Input;
 use crate::random::Random;
-use crate::records::{write_bulks, write_section};
+use crate::records::{write_bulks, write_section, Bic, Record, Row, COUNT};
 use crate::reference::right_index;
 
 /// Makes the parts of one case.
@@ -22,13 +23,16 @@ pub struct Maker<'a> {
     odds: usize,
     /// Identifiers made that stand nowhere else in the case.
     made: usize,
+    /// BICs around one slot, of which most rows, receivers and senders are; mostly there are none.
+    crowd: Vec<Bic>,
 }
 
 impl Maker<'_> {
     pub fn new(random: &mut Random) -> Maker<'_> {
         let date = Maker::date(random);
         let odds = random.pick(&[4, 12, 40, 200]);
-        Maker { random, date, odds, made: 0 }
+        let crowd = if random.one_in(3) { Maker::crowd_of_bics(random) } else { Vec::new() };
+        Maker { random, date, odds, made: 0, crowd }
     }
 
     fn spoils(&mut self) -> bool {
@@ -36,7 +40,8 @@ impl Maker<'_> {
     }
 
     fn table(&mut self) -> Vec<u8> {
-        let count = self.random.pick(&[0, 1, 2, 3, 4, 6, 9]);
+        let counts = if self.crowd.is_empty() { [0, 1, 2, 3, 4, 6, 9] } else { [0, 1, 3, 6, 9, 16, 30] };
+        let count = self.random.pick(&counts);
         let mut table = Vec::new();
         write_section(&self.rows(count), &mut table);
         table
@@ -85,9 +90,15 @@ pub fn damaged(random: &mut Random, call: &Call) -> Call {
     call
 }
 
-/// A BIC for the lookup; now and then of another length.
-pub fn lookup_bic(random: &mut Random) -> Vec<u8> {
+/// A BIC for the lookup, often one of the table's; now and then of another length.
+pub fn lookup_bic(random: &mut Random, table: &[u8]) -> Vec<u8> {
+    let rows = table.len().saturating_sub(COUNT) / Row::WIDTH;
     let mut bic = Maker::new(random).bic().to_vec();
+    if rows > 0 && random.one_in(2) {
+        let row = COUNT + Row::WIDTH * random.below(rows);
+        let same = random.pick(&[bic.len(), bic.len(), 8]);
+        bic[..same].copy_from_slice(&table[row..row + same]);
+    }
     if random.one_in(8) {
         bic.resize(random.pick(&[0, 8, 10, 12, 35]), b'X');
     }

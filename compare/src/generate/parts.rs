@@ -23,7 +23,8 @@ impl Maker<'_> {
         // without a participant every bulk falls, so most tables get one
         if count > 0 && !self.random.one_in(6) {
             let place = self.random.below(count);
-            rows[place] = Row { bic: padded(b"AAAALV22XXX"), first: WIDEST.0, last: WIDEST.1, kind: 5 };
+            let bic = padded(&[&self.first_sender()[..], b"XXX"].concat());
+            rows[place] = Row { bic, first: WIDEST.0, last: WIDEST.1, kind: 5 };
         }
         rows
     }
