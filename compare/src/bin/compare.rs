@@ -14,6 +14,7 @@ use compare::random::Random;
 use compare::{cut, generate, shrink, text};
 use cut::ByIndex;
 use generate::limits::{self, LIMITS};
+use generate::routes::ROUTES;
 use generate::sweeps::{self, SWEEPS};
 
 const USAGE: &str = "usage: compare [N [SEED]] --server PATH [--program PATH] [--full K] [--shrink SECONDS]
@@ -189,7 +190,7 @@ impl Comparison {
 
 /// The cases that are the same in every run, save for the damage.
 fn fixed(options: &Options, comparison: &mut Comparison) -> Result<(), (String, Failure)> {
-    for (name, call) in SWEEPS {
+    for (name, call) in SWEEPS.iter().chain(&ROUTES) {
         comparison.judgement(&call()).map_err(|failure| (name.to_string(), failure))?;
     }
     for date in sweeps::dates() {

@@ -8,7 +8,7 @@ use crate::records::{
 };
 use crate::reference::right_index;
 
-const DATE: u32 = 20260615;
+pub const DATE: u32 = 20260615;
 pub const SENDER: &[u8; 8] = b"AAAALV22";
 const MOST_CENTS: u64 = 99_999_999_999;
 

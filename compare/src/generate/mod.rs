@@ -5,6 +5,7 @@ mod fields;
 mod index;
 pub mod limits;
 mod parts;
+pub mod routes;
 mod rows;
 pub mod sweeps;
 
