@@ -20,6 +20,10 @@ pub record Sized (index : List ℕ) (m : ℕ) : Type 0 where
   pub whole : length index ≡ slotWidth * slotCount index
   pub enough : m ≤ slotCount index
 
+-- the slot after one of n, round the end
+abbrev pub slotAfter : ℕ → ℕ → ℕ
+slotAfter at n = cond (eqb (at + 1) n) 0 (at + 1)
+
 abbrev pub endOf : Ended → End
 endOf e = record { place = e .place; name = e .name; read = e .read }
 

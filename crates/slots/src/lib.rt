@@ -4,9 +4,9 @@ ghost use mathlib.Core.Path.{_≡_};
 ghost use Prim.Native.Nat.{_+_, _-_, _*_, _≤_, _<_};
 ghost use lib.ListN.{length, replicate};
 ghost use Rattle.wire.specs.Field.{same};
-ghost use Rattle.slots.specs.Slots.{startAt, names, passed, stopsAt};
-ghost use Rattle.slots.specs.Stored.{digits, slotWidth, mostSlots, slotCount, slotAt, slotsFrom, slotsOf, keyIn, searchedIn, added, builtIn};
-ghost use Rattle.slots.specs.Asked.{Within, Sized, endOf, taken};
+ghost use Rattle.slots.specs.Slots.{startAt, names, stopsAt};
+ghost use Rattle.slots.specs.Stored.{digits, slotWidth, mostSlots, slotCount, slotAt, slotsOf, keyIn, searchedIn, added, builtIn};
+ghost use Rattle.slots.specs.Asked.{Within, Sized, slotAfter, endOf, taken};
 
 pub const SLOT_WIDTH: usize = 4;
 
@@ -104,62 +104,36 @@ fn stops_at(layout: Layout, records: &[u8], bound: u32, looked: &[u8], name: u32
     texts::same(key_in(layout, records, name - 1), looked)
 }
 
-// Looks at slots from `from` on, and tells where the search stops; `to` if it does not before that.
-fn scan(
-    layout: Layout,
-    records: &[u8],
-    bound: u32,
-    looked: &[u8],
-    index: &[u8],
-    from: u32,
-    to: u32,
-) -> u32
-    requires { ⌜ (Within layout (now records) bound) × (to ≤ slotCount (now index)) ⌝ }
-    ensures { λ r. ⌜ r ≡ from + passed (stopsAt (keyIn layout (now (records .entry))) bound (now (looked .entry))) (slotsFrom (now (index .entry)) (to - from) from) ⌝ }
+// The slot after one, round the end.
+fn after(at: u32, n: u32) -> u32
+    requires { ⌜ at < n ⌝ }
+    ensures { λ r. ⌜ r ≡ slotAfter at n ⌝ }
 {
-    let mut at = from;
-    while at < to {
-        if stops_at(layout, records, bound, looked, slot_at(index, at)) {
-            return at;
-        }
-        at += 1;
+    if at + 1 == n {
+        return 0;
     }
-    at
+    at + 1
 }
 
-// Looks for a key among the first `bound` records: up to the last slot, then from the first. Any index will do; the records have to reach.
+// Looks for a key among the first `bound` records, slot after slot. Any index will do; the records have to reach.
 pub fn search(layout: Layout, records: &[u8], bound: u32, looked: &[u8], index: &[u8]) -> Ended
     requires { ⌜ Within layout (now records) bound ⌝ }
     ensures { λ r. ⌜ endOf r ≡ searchedIn layout (now (records .entry)) bound (now (looked .entry)) (now (index .entry)) ⌝ }
 {
     let n = slot_count(index);
-    let s = start(looked, n);
-    if s < n {
-        // most searches end where they start
-        let name = slot_at(index, s);
+    let mut at = start(looked, n);
+    let mut read = 0;
+    while read < n {
+        let name = slot_at(index, at);
+        read += 1;
         if stops_at(layout, records, bound, looked, name) {
             return Ended {
-                place: s,
+                place: at,
                 name,
-                read: 1,
+                read,
             };
         }
-    }
-    let first = scan(layout, records, bound, looked, index, s, n);
-    if first < n {
-        return Ended {
-            place: first,
-            name: slot_at(index, first),
-            read: first - s + 1,
-        };
-    }
-    let second = scan(layout, records, bound, looked, index, 0, s);
-    if second < s {
-        return Ended {
-            place: second,
-            name: slot_at(index, second),
-            read: n - s + second + 1,
-        };
+        at = after(at, n);
     }
     Ended {
         place: n,

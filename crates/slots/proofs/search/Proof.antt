@@ -1,85 +1,81 @@
--- `slots::search` meets its contract: the slot it starts at, those from there on, then those before it. Assumes nothing.
-use borrow.Author.Needs.{needs}
+-- `slots::search` meets its contract: a turn of the loop passes a slot. Assumes nothing.
 use mathlib.Core.Path.{sym, _∙_}
+use Prim.Native.Nat.{_-_}
 use native.Mathlib.Omega.{arith}
 use Rattle.slots.specs.Slots.{stopsAt}
 use Rattle.slots.specs.Stored.{digits, keyIn}
-use Rattle.slots.proofs.Searches.{starts-within, search-here, search-near, search-far, search-none}
+use Rattle.slots.proofs.Searches.{Standing, stands-first, stands-inside, stands-next, ends-here, ends-nowhere, wanted}
+use borrow.Author.Needs.{needs}
 use Rattle.slots.proofs.search.Statement.{statement}
 use Rattle.slots.proofs.search.Tie as tie
 
-returns : tie.Need-returns
+abbrev Inv-loop : tie.InvT-loop
+Inv-loop layout records bound looked index n at₀ read₀ at read = Standing (stopsAt (keyIn layout records) bound looked) index (digits looked) n at read
+
+abbrev μ-loop : tie.MeasureT-loop
+μ-loop layout records bound looked index n at₀ read₀ at read = n - read
+
+loop-holds : tie.Need-loop-holds Inv-loop μ-loop
+loop-holds c =
+    let args = c .before .before .before .before .before .args in
+    stands-first (stopsAt (keyIn (args .layout) (args .records .now)) (args .bound) (args .looked .now)) (args .index .now) (digits (args .looked .now)) _ _ (c .start .ensures)
+
+slot-at-requires : tie.Need-slot-at-requires Inv-loop μ-loop
+slot-at-requires c κs =
+    let args = c .before .before .before .before .before .before .before .args in
+    let loop = c .before .loop in
+    let count = c .before .before .before .slot-count .ensures in
+    omega (arith, count, stands-inside (stopsAt (keyIn (args .layout) (args .records .now)) (args .bound) (args .looked .now)) (args .index .now) (digits (args .looked .now)) _ count (loop .at) (loop .read) (loop .inv) (c .loop-test .taken))
+
+returns : tie.Need-returns Inv-loop μ-loop
 returns c =
-    let args = c .before .before .before .before .before .before .before .before .before .args in
-    search-here (stopsAt (keyIn (args .layout) (args .records .now)) (args .bound) (args .looked .now)) (args .index .now) (digits (args .looked .now)) _ _ _
-    (c .before .before .before .before .before .slot-count .ensures) (c .before .before .before .before .start .ensures) (c .before .before .before .if1 .taken)
-    (sym (c .before .stops-at .ensures) ∙ c .if2 .taken) (c .before .before .slot-at .ensures)
+    let args = c .before .before .before .before .before .before .before .before .before .before .args in
+    let loop = c .before .before .before .before .loop in
+    let count = c .before .before .before .before .before .before .slot-count .ensures in
+    let stops = stopsAt (keyIn (args .layout) (args .records .now)) (args .bound) (args .looked .now) in
+    wanted stops (args .index .now) (digits (args .looked .now)) _ count _
+    (ends-here stops (args .index .now) (digits (args .looked .now)) _ count (loop .at) (loop .read) (loop .inv) (c .before .before .before .loop-test .taken) _ (c .before .before .slot-at .ensures)
+    (sym (c .before .stops-at .ensures) ∙ c .if1 .taken))
 
-returns-2 : tie.Need-returns-2
+after-requires : tie.Need-after-requires Inv-loop μ-loop
+after-requires c κs =
+    let args = c .before .before .before .before .before .before .before .before .before .before .args in
+    let loop = c .before .before .before .before .loop in
+    let count = c .before .before .before .before .before .before .slot-count .ensures in
+    stands-inside (stopsAt (keyIn (args .layout) (args .records .now)) (args .bound) (args .looked .now)) (args .index .now) (digits (args .looked .now)) _ count (loop .at) (loop .read) (loop .inv) (c .before .before .before .loop-test .taken)
+
+loop-again : tie.Need-loop-again Inv-loop μ-loop
+loop-again c =
+    let args = c .before .before .before .before .before .before .before .before .before .before .before .args in
+    let loop = c .before .before .before .before .before .loop in
+    let count = c .before .before .before .before .before .before .before .slot-count .ensures in
+    let next = stands-next (stopsAt (keyIn (args .layout) (args .records .now)) (args .bound) (args .looked .now)) (args .index .now) (digits (args .looked .now)) _ count (loop .at) (loop .read) (loop .inv)
+    (c .before .before .before .before .loop-test .taken) _ (c .before .before .before .slot-at .ensures) (sym (c .before .before .stops-at .ensures) ∙ c .before .if1 .left) in
+    rw (c .after .ensures) next
+
+returns-2 : tie.Need-returns-2 Inv-loop μ-loop
 returns-2 c =
-    let args = c .before .before .before .before .before .before .before .before .before .args in
+    let args = c .before .before .before .before .before .before .before .args in
+    let loop = c .before .loop in
+    let count = c .before .before .before .slot-count .ensures in
     let stops = stopsAt (keyIn (args .layout) (args .records .now)) (args .bound) (args .looked .now) in
-    search-near stops (args .index .now) (digits (args .looked .now)) _ _ _
-    (c .before .before .before .before .before .slot-count .ensures) (c .before .before .before .before .start .ensures) (c .before .before .scan .ensures)
-    _ (c .before .if3 .taken) (c .slot-at2 .ensures)
-
-scan-requires-2 : tie.Need-scan-requires-2
-scan-requires-2 c κs =
-    let args = c .before .before .before .before .before .before .before .before .args in
-    let stops = stopsAt (keyIn (args .layout) (args .records .now)) (args .bound) (args .looked .now) in
-    let within = starts-within stops (args .index .now) (digits (args .looked .now)) _ _ _
-    (c .before .before .before .before .slot-count .ensures) (c .before .before .before .start .ensures) (c .before .scan .ensures) in
-    (c .before .before .before .before .before .before .before .before .pre, omega (arith, within, c .before .before .before .before .slot-count .ensures))
-
-slot-at-requires-3 : tie.Need-slot-at-requires-3
-slot-at-requires-3 c κs =
-    let args = c .before .before .before .before .before .before .before .before .before .before .args in
-    let stops = stopsAt (keyIn (args .layout) (args .records .now)) (args .bound) (args .looked .now) in
-    let within = starts-within stops (args .index .now) (digits (args .looked .now)) _ _ _
-    (c .before .before .before .before .before .before .slot-count .ensures) (c .before .before .before .before .before .start .ensures) (c .before .before .before .scan .ensures) in
-    omega (arith, within, c .before .before .before .before .before .before .slot-count .ensures, c .if4 .taken)
-
-sub-t17 : tie.Need-sub-t17
-sub-t17 c =
-    let args = c .before .before .before .before .before .before .before .before .before .before .before .args in
-    let stops = stopsAt (keyIn (args .layout) (args .records .now)) (args .bound) (args .looked .now) in
-    starts-within stops (args .index .now) (digits (args .looked .now)) _ _ _
-    (c .before .before .before .before .before .before .before .slot-count .ensures) (c .before .before .before .before .before .before .start .ensures) (c .before .before .before .before .scan .ensures)
-
-returns-3 : tie.Need-returns-3
-returns-3 c =
-    let args = c .before .before .before .before .before .before .before .before .before .before .before .args in
-    let stops = stopsAt (keyIn (args .layout) (args .records .now)) (args .bound) (args .looked .now) in
-    search-far stops (args .index .now) (digits (args .looked .now)) _ _ _
-    (c .before .before .before .before .before .before .before .slot-count .ensures) (c .before .before .before .before .before .before .start .ensures) (c .before .before .before .before .scan .ensures)
-    (c .before .before .before .if3 .left) _ (c .before .before .scan2 .ensures) _ (c .before .if4 .taken) (c .slot-at3 .ensures)
-
-returns-4 : tie.Need-returns-4
-returns-4 c =
-    let args = c .before .before .before .before .before .before .before .before .before .before .args in
-    let stops = stopsAt (keyIn (args .layout) (args .records .now)) (args .bound) (args .looked .now) in
-    search-none stops (args .index .now) (digits (args .looked .now)) _ _ _
-    (c .before .before .before .before .before .before .slot-count .ensures) (c .before .before .before .before .before .start .ensures) (c .before .before .before .scan .ensures)
-    (c .before .before .if3 .left) _ (c .before .scan2 .ensures) (c .if4 .left)
+    wanted stops (args .index .now) (digits (args .looked .now)) _ count _
+    (ends-nowhere stops (args .index .now) (digits (args .looked .now)) _ count (loop .at) (loop .read) (loop .inv) (c .loop-test .left))
 
 pub search-spec : {M : Type 1} → statement M
 search-spec =
     tie.close
     (tie.spec
+    Inv-loop
+    μ-loop
     (λ c κs. search needs)
     (λ c κs. search needs)
-    (λ c κs. search needs)
+    loop-holds
+    slot-at-requires
+    (λ c. search needs)
     (λ c κs. search needs)
     returns
-    (λ c κs. search needs)
-    (λ c κs. search needs)
+    after-requires
     (λ c. search needs)
-    (λ c. search needs)
-    returns-2
-    scan-requires-2
-    slot-at-requires-3
-    sub-t17
-    (λ c. search needs)
-    (λ c. search needs)
-    returns-3
-    returns-4)
+    loop-again
+    returns-2)
