@@ -1,14 +1,18 @@
 -- The start of a key by its digits: a remainder after each digit, or after four, comes to the remainder of the whole. Assumes nothing.
 use mathlib.Core.Path.{_≡_, refl, sym, ap, _∙_}
 use mathlib.Core.List.{List, [], _∷_, _++_}
-use Prim.Native.Nat.{ℕ, _+_, _*_, _/_, _%_, _≤_, _<_}
-use native.Mathlib.Nat.{add-mul, mul-assoc, mod-add-div, add-mul-mod-self-left, zero-mod}
+use Prim.Native.Nat.{ℕ, zero, suc, _+_, _*_, _/_, _%_, _≤_, _<_}
+use native.Mathlib.Nat.{add-mul, mul-assoc, mod-add-div, add-mul-mod-self-left, zero-mod, mod-lt}
 use native.Mathlib.Numerals.{add-one}
 use native.Mathlib.Omega.{arith}
 use lib.ListN.{length, take, getD}
 use lib.Seq.{take-suc, take-all}
+use Rattle.wire.specs.Field.{part}
+use Rattle.wire.proofs.Texts.{part-length}
 use Rattle.slots.specs.Slots.{startAt}
-use Rattle.slots.specs.Stored.{digitsFrom, digits}
+use Rattle.slots.specs.Stored.{digitsFrom, digits, mostSlots, keyIn}
+use Rattle.slots.specs.Asked.{frontWidth, frontIn, frontAt, Begun}
+use Rattle.slots.specs.declared.Layout.{Layout}
 use Rattle.slots.proofs.Walks.{start-rest}
 
 digits-snoc : (v : ℕ) (s : List ℕ) (b : ℕ) → digitsFrom v (s ++ (b ∷ [])) ≡ digitsFrom v s * 257 + b
@@ -36,14 +40,35 @@ pub start-none : (v n : ℕ) → n ≡ 0 → 0 ≡ startAt v n
 unfolding startAt
 start-none v n e = rw e
 
+-- before the first byte
+pub start-empty : (n : ℕ) → 0 ≡ startAt (digits []) n
+unfolding startAt digitsFrom
+start-empty zero = refl
+start-empty (suc n) = sym (zero-mod (suc n))
+
+-- ---- the front of a key
+
+front-fits : (layout : Layout) → frontWidth layout ≤ layout .width
+front-fits layout = omega arith
+
+module _ (layout : Layout) (records : List ℕ) (k : ℕ) (within : layout .first + layout .stride * k + layout .width ≤ length records) (key : List ℕ) (ek : key ≡ keyIn layout records k) where
+  pub front-read : (p : ℕ) (front : List ℕ) → p ≡ frontWidth layout → front ≡ part key 0 p → front ≡ frontIn layout records k
+  front-read p front ep ef = ef ∙ (rw (ek, ep))
+
+  pub begun-front : (n p front : ℕ) → n ≤ mostSlots → p ≡ frontWidth layout → front ≡ frontAt layout records n k → Begun key n p front
+  begun-front n p front small ep ef =
+      let long : length key ≡ layout .width = ap length ek ∙ part-length records (layout .first + layout .stride * k) (layout .width) within in
+      record { small = small; inside = omega (arith, long, ep, front-fits layout); rest = rw (ek, ep) ef }
+
 module _ (key : List ℕ) (n : ℕ) where
   -- what was read so far, as a remainder
   abbrev pub restAt : ℕ → ℕ
   restAt i = digits (take i key) % n
 
-  pub rest-starts : 0 ≡ restAt 0
-  unfolding digitsFrom
-  rest-starts = sym (zero-mod n)
+  pub rest-given : (i v : ℕ) → 0 < n → v ≡ startAt (digits (take i key)) n → (v < n) × (v ≡ restAt i)
+  rest-given i v some e =
+      let is : v ≡ restAt i = e ∙ start-rest (digits (take i key)) n some in
+      (rw is (mod-lt (digits (take i key)) some), is)
 
   pub rest-ends : (i v : ℕ) → 0 < n → length key ≤ i → v ≡ restAt i → v ≡ startAt (digits key) n
   rest-ends i v some h ev = ev ∙ (rw (take-all i key h, start-rest (digits key) n some))

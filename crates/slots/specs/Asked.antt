@@ -1,13 +1,13 @@
 -- What the functions on slots ask of their callers and tell them. Contract plumbing. Assumes nothing.
-use Prim.Native.Nat.{ℕ, suc, _+_, _-_, _*_, _≤_, _<_}
+use Prim.Native.Nat.{ℕ, suc, _+_, _-_, _*_, _/_, _≤_, _<_}
 use mathlib.Core.Path.{_≡_}
 use mathlib.Core.Bool.{cond}
 use mathlib.Core.List.{List, [], _∷_}
 use mathlib.Core.Option.{Option, none, some}
 use lib.Dec.{eqb}
-use lib.ListN.{length}
-use Rattle.slots.specs.Slots.{End, names}
-use Rattle.slots.specs.Stored.{slotWidth, slotCount}
+use lib.ListN.{length, take}
+use Rattle.slots.specs.Slots.{startAt, End, names}
+use Rattle.slots.specs.Stored.{digits, slotWidth, mostSlots, slotCount, keyIn}
 use Rattle.slots.specs.declared.Layout.{Layout}
 use Rattle.slots.specs.declared.Ended.{Ended}
 
@@ -19,6 +19,29 @@ Within layout records bound = (k : ℕ) → k < bound → layout .first + layout
 pub record Sized (index : List ℕ) (m : ℕ) : Type 0 where
   pub whole : length index ≡ slotWidth * slotCount index
   pub enough : m ≤ slotCount index
+
+-- the front of a key: all but its last eight bytes or some more, so that what follows is whole fours and what is left over
+abbrev pub frontWidth : Layout → ℕ
+frontWidth layout = 4 * (layout .width / 4 - 2)
+
+abbrev pub frontIn : Layout → List ℕ → ℕ → List ℕ
+frontIn layout records k = take (frontWidth layout) (keyIn layout records k)
+
+-- what the front of record k comes to among n slots
+abbrev pub frontAt : Layout → List ℕ → ℕ → ℕ → ℕ
+frontAt layout records n k = startAt (digits (frontIn layout records k)) n
+
+-- record k lies in the bytes with those before it, and what the front of the one before it comes to is known
+pub record Behind (layout : Layout) (records : List ℕ) (n k front : ℕ) : Type 0 where
+  pub within : Within layout records (k + 1)
+  pub small : n ≤ mostSlots
+  pub last : 0 < k → front ≡ frontAt layout records n (k - 1)
+
+-- some bytes of a key were taken in
+pub record Begun (key : List ℕ) (n i v : ℕ) : Type 0 where
+  pub small : n ≤ mostSlots
+  pub inside : i ≤ length key
+  pub rest : v ≡ startAt (digits (take i key)) n
 
 -- the slot after one of n, round the end
 abbrev pub slotAfter : ℕ → ℕ → ℕ

@@ -6,7 +6,7 @@ ghost use lib.ListN.{length, replicate};
 ghost use Rattle.wire.specs.Field.{same};
 ghost use Rattle.slots.specs.Slots.{startAt, names, stopsAt};
 ghost use Rattle.slots.specs.Stored.{digits, slotWidth, mostSlots, slotCount, slotAt, slotsOf, keyIn, searchedIn, added, builtIn};
-ghost use Rattle.slots.specs.Asked.{Within, Sized, slotAfter, endOf, taken};
+ghost use Rattle.slots.specs.Asked.{Within, Sized, frontWidth, frontIn, frontAt, Behind, Begun, slotAfter, endOf, taken};
 
 pub const SLOT_WIDTH: usize = 4;
 
@@ -63,17 +63,17 @@ fn key_in(layout: Layout, records: &[u8], k: u32) -> &[u8]
     &records[at..end]
 }
 
-// Which of n slots a key's search looks at first. Four digits are taken in before each remainder.
-fn start(key: &[u8], n: u32) -> u32
-    requires { ⌜ n ≤ mostSlots ⌝ }
+// Which of n slots a key's search looks at first, where its first i bytes come to v. Four digits are taken in before each remainder.
+fn start_from(key: &[u8], n: u32, from: usize, front: u32) -> u32
+    requires { ⌜ Begun (now key) n from front ⌝ }
     ensures { λ r. ⌜ r ≡ startAt (digits (now (key .entry))) n ⌝ }
 {
     if n == 0 {
         return 0;
     }
     let m = n as u64;
-    let mut v: u64 = 0;
-    let mut i = 0;
+    let mut v = front as u64;
+    let mut i = from;
     while 4 <= key.len() - i {
         let high = wide(key[i]) * BASE + wide(key[i + 1]);
         let low = wide(key[i + 2]) * BASE + wide(key[i + 3]);
@@ -85,6 +85,42 @@ fn start(key: &[u8], n: u32) -> u32
         i += 1;
     }
     v as u32
+}
+
+fn start(key: &[u8], n: u32) -> u32
+    requires { ⌜ n ≤ mostSlots ⌝ }
+    ensures { λ r. ⌜ r ≡ startAt (digits (now (key .entry))) n ⌝ }
+{
+    start_from(key, n, 0, 0)
+}
+
+fn front_width(layout: Layout) -> usize
+    ensures { λ r. ⌜ r ≡ frontWidth layout ⌝ }
+{
+    let fours = layout.width as usize / 4;
+    4 * (fours - wire::least(2, fours))
+}
+
+fn front_in(layout: Layout, records: &[u8], k: u32) -> &[u8]
+    requires { ⌜ layout .first + layout .stride * k + layout .width ≤ length (now records) ⌝ }
+    ensures { λ r. ⌜ now r ≡ frontIn layout (now (records .entry)) k ⌝ }
+{
+    wire::text_at(key_in(layout, records, k), 0, front_width(layout))
+}
+
+// What the front of record k comes to. Keys that follow one another mostly share it, so it is mostly known from the record before.
+fn front_at(layout: Layout, records: &[u8], n: u32, k: u32, last: u32) -> u32
+    requires { ⌜ Behind layout (now records) n k last ⌝ }
+    ensures { λ r. ⌜ r ≡ frontAt layout (now (records .entry)) n k ⌝ }
+{
+    let front = front_in(layout, records, k);
+    if k == 0 {
+        return start(front, n);
+    }
+    if texts::same(front, front_in(layout, records, k - 1)) {
+        return last;
+    }
+    start(front, n)
 }
 
 // Whether a slot's content names one of the first `bound` records.
@@ -115,13 +151,20 @@ fn after(at: u32, n: u32) -> u32
     at + 1
 }
 
-// Looks for a key among the first `bound` records, slot after slot. Any index will do; the records have to reach.
-pub fn search(layout: Layout, records: &[u8], bound: u32, looked: &[u8], index: &[u8]) -> Ended
-    requires { ⌜ Within layout (now records) bound ⌝ }
+// Looks for a key among the first `bound` records, slot after slot from the one where its search starts.
+fn search_from(
+    layout: Layout,
+    records: &[u8],
+    bound: u32,
+    looked: &[u8],
+    index: &[u8],
+    from: u32,
+) -> Ended
+    requires { ⌜ (Within layout (now records) bound) × (from ≡ startAt (digits (now looked)) (slotCount (now index))) ⌝ }
     ensures { λ r. ⌜ endOf r ≡ searchedIn layout (now (records .entry)) bound (now (looked .entry)) (now (index .entry)) ⌝ }
 {
     let n = slot_count(index);
-    let mut at = start(looked, n);
+    let mut at = from;
     let mut read = 0;
     while read < n {
         let name = slot_at(index, at);
@@ -140,6 +183,15 @@ pub fn search(layout: Layout, records: &[u8], bound: u32, looked: &[u8], index: 
         name: 0,
         read: n,
     }
+}
+
+// Any index will do; the records have to reach.
+pub fn search(layout: Layout, records: &[u8], bound: u32, looked: &[u8], index: &[u8]) -> Ended
+    requires { ⌜ Within layout (now records) bound ⌝ }
+    ensures { λ r. ⌜ endOf r ≡ searchedIn layout (now (records .entry)) bound (now (looked .entry)) (now (index .entry)) ⌝ }
+{
+    let from = start(looked, slot_count(index));
+    search_from(layout, records, bound, looked, index, from)
 }
 
 // Names record k where the search of its key among those before it ended, unless that found one.
@@ -207,10 +259,15 @@ pub fn is_built(layout: Layout, records: &[u8], m: u32, index: &[u8]) -> bool
     if m < all {
         return false;
     }
+    let n = slot_count(index);
+    let mut front = 0;
     let mut count = 0;
     let mut k = 0;
     while k < m {
-        let ended = search(layout, records, k, key_in(layout, records, k), index);
+        front = front_at(layout, records, n, k, front);
+        let key = key_in(layout, records, k);
+        let from = start_from(key, n, front_width(layout), front);
+        let ended = search_from(layout, records, k, key, index, from);
         let name = ended.name;
         if !names(k + 1, name) {
             return false;

@@ -1,118 +1,15 @@
--- `slots::start` meets its contract: a remainder after each four digits, and after each that is left over. Assumes nothing.
-use borrow.Author.Needs.{needs}
-use mathlib.Core.Path.{_≡_}
-use Prim.Native.Nat.{_-_, _<_, _≤_}
-use native.Mathlib.Nat.{mod-lt}
+-- `slots::start` meets its contract: before the first byte nothing is taken in. Assumes nothing.
 use native.Mathlib.Omega.{arith}
-use lib.ListN.{length}
-use Rattle.slots.proofs.Starts.{restAt, start-none, rest-starts, rest-one, rest-four, rest-ends}
+use Rattle.slots.proofs.Starts.{start-empty}
+use borrow.Author.Needs.{needs}
 use Rattle.slots.proofs.start.Statement.{statement}
 use Rattle.slots.proofs.start.Tie as tie
 
-abbrev Inv-loop : tie.InvT-loop
-Inv-loop key n m v₀ i₀ v i = (0 < n) × (v < n) × (i ≤ length key) × (v ≡ restAt key n i)
+start-from-requires : tie.Need-start-from-requires
+start-from-requires c κs = record { small = c .before .pre; inside = omega arith; rest = start-empty (c .before .args .n) }
 
-abbrev μ-loop : tie.MeasureT-loop
-μ-loop key n m v₀ i₀ v i = length key - i
-
-abbrev Inv-loop2 : tie.InvT-loop2
-Inv-loop2 key n m v₀ i₀ v i = (0 < n) × (v < n) × (v ≡ restAt key n i)
-
-abbrev μ-loop2 : tie.MeasureT-loop2
-μ-loop2 key n m v₀ i₀ v i = length key - i
-
-returns : tie.Need-returns Inv-loop μ-loop Inv-loop2 μ-loop2
-returns c = start-none _ _ (c .if1 .taken)
-
-loop-holds : tie.Need-loop-holds Inv-loop μ-loop Inv-loop2 μ-loop2
-loop-holds c = let args = c .before .before .args in (search needs, search needs, search needs, rest-starts (args .key .now) (args .n))
-
-mul-v : tie.Need-mul-v Inv-loop μ-loop Inv-loop2 μ-loop2
-mul-v c = omega (arith, c .before .before .before .before .before .before .before .before .before .loop .inv .1, c .before .before .before .before .before .before .before .before .before .before .before .before .pre)
-
-mul-v-2 : tie.Need-mul-v-2 Inv-loop μ-loop Inv-loop2 μ-loop2
-mul-v-2 c = omega (arith, c .before .before .before .before .before .before .wide .ensures .1, c .before .before .before .before .wide2 .ensures .1)
-
-add-v : tie.Need-add-v Inv-loop μ-loop Inv-loop2 μ-loop2
-add-v c =
-    let loop = c .before .before .before .before .before .before .before .before .before .loop in
-    omega (arith, loop .inv .1, c .before .before .before .before .before .before .before .before .before .before .before .before .pre, c .before .before .before .before .before .before .wide .ensures .1, c .before .before .before .before .wide2 .ensures .1)
-
-add-v-2 : tie.Need-add-v-2 Inv-loop μ-loop Inv-loop2 μ-loop2
-add-v-2 c =
-    let loop = c .before .before .before .before .before .before .before .before .before .loop in
-    let high = c .before .before .before .before .wide2 in
-    omega (arith, loop .inv .1, c .before .before .before .before .before .before .before .before .before .before .before .before .pre, c .before .before .before .before .before .before .wide .ensures .1, high .ensures .1, c .before .before .wide3 .ensures .1, c .wide4 .ensures .1)
-
-loop-again : tie.Need-loop-again Inv-loop μ-loop Inv-loop2 μ-loop2
-loop-again c =
-    let args = c .before .before .before .before .before .before .before .before .before .before .before .before .args in
-    let loop = c .before .before .before .before .before .before .before .before .before .loop in
-    let next = rest-four (args .key .now) (args .n) (loop .i) (loop .v) (loop .inv .3) in (
-      loop .inv .0,
-      mod-lt _ (loop .inv .0),
-      omega arith,
-      next _ (c .before .before .before .before .before .before .wide .ensures .0) _ _ _ (c .before .before .before .before .wide2 .ensures .0) (c .before .before .wide3 .ensures .0) (c .wide4 .ensures .0) (omega arith),
-    )
-
-loop2-holds : tie.Need-loop2-holds Inv-loop μ-loop Inv-loop2 μ-loop2
-loop2-holds c = (c .before .loop .inv .0, c .before .loop .inv .1, c .before .loop .inv .3)
-
-loop2-again : tie.Need-loop2-again Inv-loop μ-loop Inv-loop2 μ-loop2
-loop2-again c =
-    let args = c .before .before .before .before .before .before .before .before .args in
-    let loop = c .before .before .before .loop2 in
-    let next = rest-one (args .key .now) (args .n) (loop .i) (loop .v) (loop .inv .2) in
-    (loop .inv .0, mod-lt _ (loop .inv .0), next _ (c .wide5 .ensures .0) (c .before .before .loop2-test .taken))
-
-returns-2 : tie.Need-returns-2 Inv-loop μ-loop Inv-loop2 μ-loop2
-returns-2 c =
-    let args = c .before .before .before .before .before .before .args in
-    let loop = c .before .loop2 in
-    rest-ends (args .key .now) (args .n) (loop .i) (loop .v) (loop .inv .0) (c .loop2-test .left) (loop .inv .2)
+returns : tie.Need-returns
+returns c = c .start-from .ensures
 
 pub start-spec : {M : Type 1} → statement M
-start-spec =
-    tie.close
-    (tie.spec
-    Inv-loop
-    μ-loop
-    Inv-loop2
-    μ-loop2
-    returns
-    loop-holds
-    (λ c. search needs)
-    (λ c. search needs)
-    (λ c κs. search needs)
-    (λ c. search needs)
-    (λ c. search needs)
-    (λ c. search needs)
-    (λ c κs. search needs)
-    (λ c. search needs)
-    (λ c. search needs)
-    (λ c. search needs)
-    (λ c κs. search needs)
-    (λ c. search needs)
-    (λ c. search needs)
-    (λ c. search needs)
-    (λ c κs. search needs)
-    (λ c. search needs)
-    mul-v
-    mul-v-2
-    add-v
-    add-v-2
-    (λ c. search needs)
-    (λ c. search needs)
-    (λ c. search needs)
-    loop-again
-    loop2-holds
-    (λ c. search needs)
-    (λ c. search needs)
-    (λ c κs. search needs)
-    (λ c. search needs)
-    (λ c. search needs)
-    (λ c. search needs)
-    (λ c. search needs)
-    loop2-again
-    (λ c. search needs)
-    returns-2)
+start-spec = tie.close (tie.spec start-from-requires returns)
