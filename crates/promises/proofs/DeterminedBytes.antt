@@ -29,6 +29,9 @@ module _ {M : Type 1} (𝓤 : URA M) (H : Heap 𝓤) (A : Atoms 𝓤) (mem : Mem
   pub wire·least : Determined 𝓤 H A mem run wire.least.ended wire.least.clauses
   wire·least κs a g r r' ws ws' h h' = (number 𝓤 _ (h .told) (h' .told), refl)
 
+  pub wire·four-at : Determined 𝓤 H A mem run wire.four_at.ended wire.four_at.clauses
+  wire·four-at κs a g r r' ws ws' h h' = (both 𝓤 ℕ-set (λ t t'. t .0 ∙ sym (t' .0)) (h .told) (h' .told), refl)
+
   pub wire·number : Determined 𝓤 H A mem run wire.number.ended wire.number.clauses
   wire·number κs a g r r' ws ws' h h' = (number 𝓤 _ (h .told) (h' .told), refl)
 

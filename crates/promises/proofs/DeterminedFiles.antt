@@ -18,6 +18,7 @@ use Rattle.promises.specs.Determined.{Determines, Determined}
 use Rattle.promises.proofs.Told.{results, both, number, truth, bytes}
 use Rattle.promises.proofs.Readings.{found-one, routed-one, shape-one, count-one, header-one, message-one, walk-one, bulk-one, places-one, cents-one, side-one, tally-one}
 use Rattle.routing.proofs as routing
+use Rattle.directory.proofs as directory
 use Rattle.sheet.proofs as sheet
 use Rattle.register.proofs as register
 use Rattle.positions.proofs as positions
@@ -32,6 +33,18 @@ module _ {M : Type 1} (𝓤 : URA M) (H : Heap 𝓤) (A : Atoms 𝓤) (mem : Mem
 
   pub routing·well-formed : Determined 𝓤 H A mem run routing.well_formed.ended routing.well_formed.clauses
   routing·well-formed κs a g r r' ws ws' h h' = (both 𝓤 Bool-set (λ t t'. t .is ∙ sym (t' .is)) (h .told) (h' .told), refl)
+
+  pub routing·counts : Determined 𝓤 H A mem run routing.counts.ended routing.counts.clauses
+  routing·counts κs a g r r' ws ws' h h' = (truth 𝓤 _ (h .told) (h' .told), refl)
+
+  pub routing·bic-at : Determines 𝓤 routing.bic_at.ended (routing.bic_at.clauses 𝓤 H A mem run) {Seen = λ κs. List ℕ} (λ κs r. now r)
+  routing·bic-at κs a g r r' ws ws' h h' = (bytes 𝓤 _ (h .told) (h' .told), refl)
+
+  pub routing·head-office : Determined 𝓤 H A mem run routing.head_office.ended routing.head_office.clauses
+  routing·head-office κs a g r r' ws ws' h h' = (both 𝓤 (results routing.head_office.ended κs) (λ t t'. t .whole ∙ sym (t' .whole)) (h .told) (h' .told), refl)
+
+  pub routing·is-head-office : Determined 𝓤 H A mem run routing.is_head_office.ended routing.is_head_office.clauses
+  routing·is-head-office κs a g r r' ws ws' h h' = (truth 𝓤 _ (h .told) (h' .told), refl)
 
   pub routing·row-of : Determined 𝓤 H A mem run routing.row_of.ended routing.row_of.clauses
   routing·row-of κs a g r r' ws ws' h h' = (both 𝓤 (results routing.row_of.ended κs) found-one (h .told) (h' .told), refl)
@@ -53,6 +66,20 @@ module _ {M : Type 1} (𝓤 : URA M) (H : Heap 𝓤) (A : Atoms 𝓤) (mem : Mem
 
   pub routing·number-of : Determined 𝓤 H A mem run routing.number_of.ended routing.number_of.clauses
   routing·number-of κs a g r r' ws ws' h h' = (number 𝓤 _ (h .told) (h' .told), refl)
+
+  -- ---- directory
+
+  pub directory·make : Determined 𝓤 H A mem run directory.make.ended directory.make.clauses
+  directory·make κs a g r r' ws ws' h h' = (refl, λ i. (tt, (tt, (bytes 𝓤 _ (h .told) (h' .told) i, tt))))
+
+  pub directory·row-of : Determined 𝓤 H A mem run directory.row_of.ended directory.row_of.clauses
+  directory·row-of κs a g r r' ws ws' h h' = (both 𝓤 (results directory.row_of.ended κs) found-one (h .told) (h' .told), refl)
+
+  pub directory·head-office-row : Determined 𝓤 H A mem run directory.head_office_row.ended directory.head_office_row.clauses
+  directory·head-office-row κs a g r r' ws ws' h h' = (both 𝓤 (results directory.head_office_row.ended κs) found-one (h .told) (h' .told), refl)
+
+  pub directory·route : Determined 𝓤 H A mem run directory.route.ended directory.route.clauses
+  directory·route κs a g r r' ws ws' h h' = (both 𝓤 (results directory.route.ended κs) found-one (h .told) (h' .told), refl)
 
   -- ---- sheet
 

@@ -49,11 +49,11 @@ building-one Built Built e = refl
 
 -- of the judgement of a bulk's messages, which has ten arguments
 abbrev MessagesLeft : Type 0
-MessagesLeft = Unit {0} × (Unit {0} × (Unit {0} × (Unit {0} × (List ℕ × (List ℕ × (List ℕ × (List ℕ × (Unit {0} × (Unit {0} × Unit {0})))))))))
+MessagesLeft = Unit {0} × (Unit {0} × (Unit {0} × (Unit {0} × (Unit {0} × (List ℕ × (List ℕ × (List ℕ × (List ℕ × (Unit {0} × (Unit {0} × Unit {0}))))))))))
 
-pub messages-left : (ws ws' : MessagesLeft) → ws .1 .1 .1 .1 .0 ≡ ws' .1 .1 .1 .1 .0 → ws .1 .1 .1 .1 .1 .0 ≡ ws' .1 .1 .1 .1 .1 .0
-    → ws .1 .1 .1 .1 .1 .1 .0 ≡ ws' .1 .1 .1 .1 .1 .1 .0 → ws .1 .1 .1 .1 .1 .1 .1 .0 ≡ ws' .1 .1 .1 .1 .1 .1 .1 .0 → ws ≡ ws'
-messages-left ws ws' p q e f = λ i. (tt, (tt, (tt, (tt, (p i, (q i, (e i, (f i, (tt, (tt, tt))))))))))
+pub messages-left : (ws ws' : MessagesLeft) → ws .1 .1 .1 .1 .1 .0 ≡ ws' .1 .1 .1 .1 .1 .0 → ws .1 .1 .1 .1 .1 .1 .0 ≡ ws' .1 .1 .1 .1 .1 .1 .0
+    → ws .1 .1 .1 .1 .1 .1 .1 .0 ≡ ws' .1 .1 .1 .1 .1 .1 .1 .0 → ws .1 .1 .1 .1 .1 .1 .1 .1 .0 ≡ ws' .1 .1 .1 .1 .1 .1 .1 .1 .0 → ws ≡ ws'
+messages-left ws ws' p q e f = λ i. (tt, (tt, (tt, (tt, (tt, (p i, (q i, (e i, (f i, (tt, (tt, tt)))))))))))
 
 -- of a call with an index
 abbrev Left : Type 0

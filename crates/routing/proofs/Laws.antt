@@ -118,7 +118,7 @@ module _ (bic front text : List ℕ) (ef : front ≡ part bic 0 institutionWidth
       ∙ ap (λ (l : List ℕ). l ++ xxx) ef
 
   pub head-told : HeadTold bic (record { text = text; length = length front + branchWidth })
-  head-told = record { within = head-within; is = head-written }
+  head-told = record { whole = rw (et, ef); within = head-within; is = head-written }
 
 -- ---- the three ways of a route
 

@@ -1,11 +1,14 @@
 -- What the contracts say besides a function's value: facts that the code of a crate above needs, so that it cites no proof of this one.
+use Prim.Native.Char.{code}
 use Prim.Native.Nat.{ℕ, _+_, _*_, _≤_, _<_}
 use mathlib.Core.Path.{_≡_}
 use mathlib.Core.Bool.{Bool, true}
 use mathlib.Core.List.{List}
 use mathlib.Core.Option.{Option, none, some}
-use lib.ListN.{length, take}
-use Rattle.routing.specs.Table.{rowWidth, countWidth, mostRows, rows, wellFormed}
+use lib.ListN.{length, take, replicate}
+use lib.Seq.{sets}
+use Rattle.wire.specs.Field.{part}
+use Rattle.routing.specs.Table.{institutionWidth, branchWidth, bicWidth, rowWidth, countWidth, mostRows, rows, wellFormed}
 use Rattle.routing.specs.Lookup.{headOffice, Routed, valuesOf}
 use Rattle.routing.specs.declared.HeadOffice.{HeadOffice}
 use Rattle.routing.specs.declared.Answer.{Answer}
@@ -29,8 +32,16 @@ pub record RowTold (table : List ℕ) (told expected : Option ℕ) : Type 0 wher
   pub is : told ≡ expected
   pub within : Below (rows table) told
 
--- a head office is so many bytes of a text
+-- a head office is so many bytes of a text, the front of a BIC over X
+abbrev pub headIn : List ℕ → HeadOffice
+headIn bic =
+    record {
+      text = sets (replicate bicWidth (code "X")) 0 (part bic 0 institutionWidth);
+      length = length (part bic 0 institutionWidth) + branchWidth;
+    }
+
 pub record HeadTold (bic : List ℕ) (told : HeadOffice) : Type 0 where
+  pub whole : told ≡ headIn bic
   pub within : told .length ≤ length (told .text)
   pub is : take (told .length) (told .text) ≡ headOffice bic
 

@@ -25,10 +25,7 @@ pub fn four_at(s: &[u8], at: usize) -> u64
     requires { ⌜ at + 4 ≤ length (now s) ⌝ }
     ensures { λ r. ⌜ (r ≡ numberAt (now (s .entry)) at 4) × (r < 256 ^ 4) ⌝ }
 {
-    wide(s[at]) * 16777216
-        + wide(s[at + 1]) * 65536
-        + wide(s[at + 2]) * 256
-        + wide(s[at + 3])
+    wide(s[at]) * 16777216 + wide(s[at + 1]) * 65536 + wide(s[at + 2]) * 256 + wide(s[at + 3])
 }
 
 // The number that s writes, highest byte first, modulo 2^64: exact up to eight bytes. The widths that are read most take a load or two.

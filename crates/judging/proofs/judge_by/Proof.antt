@@ -22,9 +22,11 @@ judge-bulks-requires c κs =
     let a = c .before .before .before .before .before .before .before .before .before .before .before .before .before .before .before .before .before .before .before .before .before .before .before .before .before .before .args in
     let call = callOf (a .terms) (a .sheet .now) (a .table .now) (a .register .now) (a .positions .now) (a .report .now) in
     let check = c .before .before .before .before .before .before .before .before .before .before .before .before .before .before .before .check in
-    let given = c .before .before .before .before .before .before .before .before .before .before .before .before .before .checked2 .given in
-    (bulks-ready (a .indexed) call (a .index .now) (check .result) (given .0 .0) (given .1) (check .ensures) _ (c .before .before .before .before .before .before .before .before .before .before .put-count .kept .0), entries-ready (a .indexed) call (a .index .now) (check .result) (given .0 .0) (given .1) (check .ensures),
-    record { formed = table-formed (a .indexed) call (a .index .now) (check .result) (given .0 .0) (given .1) (check .ensures); is = c .before .before .before .before .before .before .make .ensures })
+    let given = c .before .before .before .before .before .before .before .before .before .before .before .before .before .checked2 .given in (
+      bulks-ready (a .indexed) call (a .index .now) (check .result) (given .0 .0) (given .1) (check .ensures) _ (c .before .before .before .before .before .before .before .before .before .before .put-count .kept .0),
+      entries-ready (a .indexed) call (a .index .now) (check .result) (given .0 .0) (given .1) (check .ensures),
+      record { formed = table-formed (a .indexed) call (a .index .now) (check .result) (given .0 .0) (given .1) (check .ensures); is = c .before .before .before .before .before .before .make .ensures },
+    )
 
 space-for-requires : tie.Need-space-for-requires
 space-for-requires c κs =
