@@ -8,7 +8,7 @@ use native.Mathlib.Numerals.{add-one}
 use native.Mathlib.Omega.{arith}
 use lib.ListN.{length}
 use Rattle.slots.specs.Slots.{End, names}
-use Rattle.slots.specs.Stored.{searchedIn, added, pickedIn}
+use Rattle.slots.specs.Stored.{searchedIn, added}
 use Rattle.slots.specs.Asked.{Within, endOf, namedBy}
 use Rattle.slots.specs.declared.Layout.{Layout}
 use Rattle.slots.specs.declared.Ended.{Ended}

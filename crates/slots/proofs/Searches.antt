@@ -1,131 +1,136 @@
--- A search that reads slot after slot, round the end: where it stands after so many, and that it ends as the definition says. Assumes
--- nothing.
+-- A search that reads from its start to the last slot, and then from the first slot to its start, ends as the definition says: over
+-- slots as a list, and in bytes. Assumes nothing.
 use mathlib.Core.Path.{_≡_, sym, ap, _∙_}
-use mathlib.Core.Logic.{⊎-elim}
-use mathlib.Core.Bool.{Bool, true, false}
-use mathlib.Core.List.{List, _∷_}
-use Prim.Native.Nat.{ℕ, suc, _+_, _-_, _≤_, _<_, min}
-use native.Mathlib.Nat.{add-zero, zero-add, mod-lt}
-use native.Mathlib.Numerals.{add-one}
+use mathlib.Core.Bool.{Bool, true}
+use mathlib.Core.List.{List}
+use Prim.Native.Nat.{ℕ, _+_, _-_, _≤_, _<_, min}
+use native.Mathlib.Nat.{zero-add, sub-zero}
 use native.Mathlib.Omega.{arith}
-use lib.ListN.{length, drop, getD, drop-of-length-le, List·getD-eq-default}
-use lib.Seq.{drop-cons}
-use borrow.Author.Tests.{eq-eqb, ne-eqb}
-use Rattle.wire.proofs.Sides.{le-or-lt}
+use lib.ListN.{length, take, drop, getD, length-drop, List·getD-eq-default}
 use Rattle.slots.specs.Slots.{startAt, turned, placeAfter, passed, End, endAfter}
-use Rattle.slots.specs.Stored.{slotCount, slotAt, slotsOf}
-use Rattle.slots.specs.Asked.{slotAfter}
-use Rattle.slots.proofs.Walks.{start-rest, start-within, place-near, place-far, place-none, place-within, turned-length, turned-get}
-use Rattle.slots.proofs.Stored.{slots-many, slots-at}
-
--- ---- from slot to slot
-
-place-first : (v n : ℕ) → 0 < n → startAt v n ≡ placeAfter (startAt v n) 0 n
-place-first v n some =
-    let low : startAt v n < n = rw (start-rest v n some) (mod-lt v some) in
-    sym (place-near (startAt v n) 0 n (rw (add-zero (startAt v n)) low) ∙ add-zero (startAt v n))
-
-place-next : (s p n : ℕ) → s ≤ n → p + 1 < n → slotAfter (placeAfter s p n) n ≡ placeAfter s (p + 1) n
-place-next s p n low next = ⊎-elim
-    (λ (far : n ≤ s + p).
-    let sum : s + p - n + 1 ≡ s + (p + 1) - n = omega arith in
-    rw (place-far s p n (omega arith) far, place-far s (p + 1) n next (omega arith), ne-eqb (s + p - n + 1) n (λ z. omega arith)) sum)
-    (λ (near : s + p < n). ⊎-elim
-    (λ (last : n ≤ s + p + 1).
-    let end : s + p + 1 ≡ n = omega arith in
-    let sum : 0 ≡ s + (p + 1) - n = omega arith in
-    rw (place-near s p n near, place-far s (p + 1) n next (omega arith), eq-eqb (s + p + 1) n end) sum)
-    (λ (inside : s + p + 1 < n).
-    let sum : s + p + 1 ≡ s + (p + 1) = omega arith in
-    rw (place-near s p n near, place-near s (p + 1) n (omega arith), ne-eqb (s + p + 1) n (λ z. omega arith)) sum)
-    (le-or-lt n (s + p + 1)))
-    (le-or-lt n (s + p))
-
--- ---- a key that comes to v, among n slots in bytes
+use Rattle.slots.specs.Stored.{slotCount, slotAt, slotsFrom, slotsOf}
+use Rattle.slots.proofs.Walks.{start-within, passed-within, passed-first, passed-second, place-near, place-far, place-none, turned-length, turned-get}
+use Rattle.slots.proofs.Turns.{stopFrom, stop-here, stop-ends}
+use Rattle.slots.proofs.Stored.{slots-drop, slots-take, slots-many, slots-at}
 
 abbrev endBy : ℕ → ℕ → ℕ → End
 endBy place name read = record { place = place; name = name; read = read }
 
-module _ (stops : ℕ → Bool) (index : List ℕ) (v n : ℕ) where
-  abbrev s : ℕ
-  s = startAt v n
+-- ---- as a list
 
-  abbrev xs : List ℕ
-  xs = slotsOf index
+module _ (stops : ℕ → Bool) (xs : List ℕ) (s : ℕ) (h : s ≤ length xs) where
+  abbrev end : End
+  end = endAfter s xs (passed stops (turned s xs))
 
-  -- in the order in which they are read
-  abbrev ts : List ℕ
-  ts = turned s xs
+  abbrev front : ℕ
+  front = passed stops (drop s xs)
 
-  -- so many were read, and the search goes on at this slot
-  pub record Standing (at read : ℕ) : Type 0 where
-    pub few : read ≤ n
-    pub place : read < n → at ≡ placeAfter s read n
-    pub rest : passed stops ts ≡ read + passed stops (drop read ts)
+  by-fields : (p place name read : ℕ) → passed stops (turned s xs) ≡ p → place ≡ placeAfter s p (length xs) → name ≡ getD (turned s xs) p 0
+      → read ≡ min (p + 1) (length xs) → endBy place name read ≡ end
+  unfolding endAfter
+  by-fields p place name read e ep en er = rw e (λ i. record { place = ep i; name = en i; read = er i })
 
-  pub stands-first : (at : ℕ) → at ≡ s → Standing at 0
-  stands-first at e = record { few = omega arith; place = λ some. e ∙ place-first v n some; rest = sym (zero-add (passed stops ts)) }
+  -- it stops at the slot at that place
+  at-slot : (p place read : ℕ) → passed stops (turned s xs) ≡ p → p < length xs → placeAfter s p (length xs) ≡ place
+      → read ≡ min (p + 1) (length xs) → endBy place (getD xs place 0) read ≡ end
+  at-slot p place read e l ep er =
+      by-fields p place (getD xs place 0) read e (sym ep) (sym (turned-get s xs h p l ∙ ap (λ (k : ℕ). getD xs k 0) ep)) er
 
-  module _ (en : n ≡ slotCount index) where
-    many : length xs ≡ n
-    many = slots-many index ∙ sym en
+  ends-near : (first : ℕ) → first ≡ s + front → first < length xs → endBy first (getD xs first 0) (first - s + 1) ≡ end
+  ends-near first e l =
+      let short : front < length (drop s xs) = rw (length-drop s xs) (omega arith) in
+      at-slot front first (first - s + 1) (passed-first stops (drop s xs) (take s xs) short) (omega arith)
+      (place-near s front (length xs) (omega arith) ∙ sym e) (omega arith)
 
-    low : s ≤ length xs
-    low = rw many (start-within v n)
+  module _ (all : length xs ≤ s + front) (second : ℕ) (e : second ≡ passed stops (take s xs)) where
+    in-both : passed stops (turned s xs) ≡ length xs - s + second
+    in-both =
+        let full : length (drop s xs) ≤ front = rw (length-drop s xs) (omega arith) in
+        passed-second stops (drop s xs) (take s xs) full ∙ (rw (length-drop s xs, e))
 
-    long : length ts ≡ n
-    long = turned-length s xs low ∙ many
+    ends-far : second < s → endBy second (getD xs second 0) (length xs - s + second + 1) ≡ end
+    ends-far l =
+        let back : s + (length xs - s + second) - length xs ≡ second = omega arith in
+        at-slot (length xs - s + second) second (length xs - s + second + 1) in-both (omega arith)
+        (place-far s (length xs - s + second) (length xs) (omega arith) (omega arith) ∙ back) (omega arith)
 
-    module _ (at read : ℕ) (standing : Standing at read) where
-      module _ (more : read < n) where
-        pub stands-inside : at < n
-        stands-inside = rw (standing .place more) (place-within s read n (start-within v n) more)
+    ends-nowhere : s ≤ second → endBy (length xs) 0 (length xs) ≡ end
+    ends-nowhere l =
+        let long : length (turned s xs) ≡ length xs = turned-length s xs h in
+        let most : passed stops (turned s xs) ≤ length (turned s xs) = passed-within stops (turned s xs) in
+        let out : length (turned s xs) ≤ length xs = omega arith in
+        by-fields (length xs) (length xs) 0 (length xs) (omega (arith, in-both, most, long))
+        (sym (place-none s (length xs) (length xs) (omega arith)))
+        (sym (List·getD-eq-default (turned s xs) 0 out)) (omega arith)
 
-        module _ (name : ℕ) (e : name ≡ slotAt index at) where
-          held : name ≡ getD ts read 0
-          held =
-              e
-              ∙ sym (slots-at index at (rw en at stands-inside))
-              ∙ ap (λ (i : ℕ). getD xs i 0) (standing .place more ∙ ap (placeAfter s read) (sym many))
-              ∙ sym (turned-get s xs low read (rw many more))
+-- ---- in bytes, from the start of a key that comes to v
 
-          ahead : drop read ts ≡ name ∷ drop (suc read) ts
-          ahead = rw held (drop-cons ts read 0 (rw long more))
+module _ (stops : ℕ → Bool) (index : List ℕ) (v n s first : ℕ) (en : n ≡ slotCount index) (es : s ≡ startAt v n)
+    (ef : first ≡ s + passed stops (slotsFrom index (n - s) s)) where
+  many : length (slotsOf index) ≡ n
+  many = slots-many index ∙ sym en
 
-          pub stands-next : stops name ≡ false → Standing (slotAfter at n) (read + 1)
-          unfolding passed
-          stands-next on =
-              let one : passed stops (drop read ts) ≡ suc (passed stops (drop (suc read) ts)) = rw (ahead, on) in
-              let next : passed stops (drop (suc read) ts) ≡ passed stops (drop (read + 1) ts) = ap (λ (i : ℕ). passed stops (drop i ts)) (sym (add-one read)) in
-              record {
-                few = omega arith;
-                place = λ further. ap (λ (i : ℕ). slotAfter i n) (standing .place more) ∙ place-next s read n (start-within v n) further;
-                rest = omega (arith, standing .rest, one, next);
-              }
+  starts-within : s ≤ n
+  starts-within = rw es (start-within v n)
 
-          stops-after : stops name ≡ true → passed stops ts ≡ read
-          unfolding passed
-          stops-after here =
-              let none : passed stops (drop read ts) ≡ 0 = rw (ahead, here) in
-              omega (arith, standing .rest, none)
+  low : s ≤ length (slotsOf index)
+  low = rw many starts-within
 
-          pub ends-here : stops name ≡ true → endBy at name (read + 1) ≡ endAfter s xs (passed stops ts)
-          unfolding endAfter
-          ends-here here =
-              let reads : read + 1 ≡ min (read + 1) (length xs) = rw many (omega arith) in
-              rw (stops-after here) (λ i. record { place = (standing .place more ∙ ap (placeAfter s read) (sym many)) i; name = held i; read = reads i })
+  starts : s ≡ startAt v (length (slotsOf index))
+  starts = rw many es
 
-      pub ends-nowhere : n ≤ read → endBy n 0 n ≡ endAfter s xs (passed stops ts)
-      unfolding endAfter passed
-      ends-nowhere all =
-          let past : length ts ≤ read = rw long all in
-          let full : read ≡ n = omega (arith, standing .few) in
-          let none : passed stops ts ≡ n = rw (drop-of-length-le ts past, add-zero, full) at (standing .rest) in
-          let out : length ts ≤ n = rw long (omega arith) in
-          let beyond : length xs ≤ n = rw many (omega arith) in
-          let reads : n ≡ min (n + 1) (length xs) = rw many (omega arith) in
-          rw none (λ i. record { place = sym (place-none s n (length xs) beyond ∙ many) i; name = sym (List·getD-eq-default ts 0 out) i; read = reads i })
+  after : drop s (slotsOf index) ≡ slotsFrom index (n - s) s
+  after = rw en (slots-drop index (slotCount index) 0 s ∙ ap (slotsFrom index (slotCount index - s)) (zero-add s))
 
-    -- as the definition has it
-    pub wanted : (e : End) → e ≡ endAfter s xs (passed stops ts) → e ≡ (let b = startAt v (length xs) in endAfter b xs (passed stops (turned b xs)))
-    wanted e is = rw many is
+  first-is : first ≡ s + passed stops (drop s (slotsOf index))
+  first-is = rw after ef
+
+  abbrev wanted : End
+  wanted = (let b = startAt v (length (slotsOf index)) in endAfter b (slotsOf index) (passed stops (turned b (slotsOf index))))
+
+  search-near : (name : ℕ) → first < n → name ≡ slotAt index first → endBy first name (first - s + 1) ≡ wanted
+  search-near name l e =
+      let is : name ≡ getD (slotsOf index) first 0 = e ∙ sym (slots-at index first (rw en at l)) in
+      rw (is, ← starts) (ends-near stops (slotsOf index) s low first first-is (rw many l))
+
+  module _ (all : n ≤ first) (second : ℕ) (e : second ≡ 0 + passed stops (slotsFrom index (s - 0) 0)) where
+    through : length (slotsOf index) ≤ s + passed stops (drop s (slotsOf index))
+    through = rw (many, ← first-is) all
+
+    second-is : second ≡ passed stops (take s (slotsOf index))
+    second-is =
+        let before : take s (slotsOf index) ≡ slotsFrom index s 0 = slots-take index (slotCount index) 0 s (rw en at starts-within) in
+        rw before (rw (sub-zero s, zero-add (passed stops (slotsFrom index s 0))) at e)
+
+    search-far : (name : ℕ) → second < s → name ≡ slotAt index second → endBy second name (n - s + second + 1) ≡ wanted
+    search-far name l is =
+        let inside : second < slotCount index = omega (arith, starts-within) in
+        let holds : name ≡ getD (slotsOf index) second 0 = is ∙ sym (slots-at index second inside) in
+        rw (holds, ← many, ← starts) (ends-far stops (slotsOf index) s low through second second-is l)
+
+    search-none : s ≤ second → endBy n 0 n ≡ wanted
+    search-none l = rw (← starts, ← many) (ends-nowhere stops (slotsOf index) s low through second second-is l)
+
+-- ---- a search in two loops, each of which passes slots as long as it does not stop
+
+module _ (stops : ℕ → Bool) (index : List ℕ) (v n s : ℕ) (en : n ≡ slotCount index) (es : s ≡ startAt v n) where
+  abbrev ended : End
+  ended = (let b = startAt v (length (slotsOf index)) in endAfter b (slotsOf index) (passed stops (turned b (slotsOf index))))
+
+  pub from-within : s ≤ n
+  from-within = rw es (start-within v n)
+
+  module _ (at : ℕ) (so-far : stopFrom stops index n at ≡ stopFrom stops index n s) where
+    pub stops-near : (name : ℕ) → at < n → name ≡ slotAt index at → stops name ≡ true → endBy at name (at - s + 1) ≡ ended
+    stops-near name l e here = search-near stops index v n s at en es (sym (stop-here stops index n at l (rw (← e) here)) ∙ so-far) name l e
+
+    module _ (all : n ≤ at) (round : ℕ) (again : stopFrom stops index s round ≡ stopFrom stops index s 0) where
+      first-is-all : at ≡ stopFrom stops index n s
+      first-is-all = sym (stop-ends stops index n at all) ∙ so-far
+
+      pub stops-far : (name : ℕ) → round < s → name ≡ slotAt index round → stops name ≡ true → endBy round name (n - s + round + 1) ≡ ended
+      stops-far name l e here =
+          search-far stops index v n s at en es first-is-all all round (sym (stop-here stops index s round l (rw (← e) here)) ∙ again) name l e
+
+      pub stops-nowhere : s ≤ round → endBy n 0 n ≡ ended
+      stops-nowhere l = search-none stops index v n s at en es first-is-all all round (sym (stop-ends stops index s round l) ∙ again) l

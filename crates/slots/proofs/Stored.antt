@@ -34,6 +34,21 @@ module _ (index : List ℕ) where
       let next : suc i + j ≡ i + suc j = omega arith in
       slots-get n (suc i) j (omega arith) ∙ ap (slotAt index) next
 
+  pub slots-drop : (n i s : ℕ) → drop s (slotsFrom index n i) ≡ slotsFrom index (n - s) (i + s)
+  unfolding slotsFrom
+  slots-drop n i zero = let all : n - 0 ≡ n = omega arith in rw (all, add-zero i)
+  slots-drop zero i (suc s) = let none : 0 - suc s ≡ 0 = omega arith in rw none
+  slots-drop (suc n) i (suc s) =
+      let fewer : suc n - suc s ≡ n - s = omega arith in
+      let next : i + suc s ≡ suc i + s = omega arith in
+      rw (fewer, next) (slots-drop n (suc i) s)
+
+  pub slots-take : (n i s : ℕ) → s ≤ n → take s (slotsFrom index n i) ≡ slotsFrom index s i
+  unfolding slotsFrom
+  slots-take n i zero h = refl
+  slots-take zero i (suc s) h = absurd (omega arith)
+  slots-take (suc n) i (suc s) h = ap (λ (l : List ℕ). slotAt index i ∷ l) (slots-take n (suc i) s (omega arith))
+
   -- all of them
   pub slots-many : length (slotsOf index) ≡ slotCount index
   slots-many = slots-length (slotCount index) 0

@@ -1,20 +1,44 @@
--- A turn of each loop over slots in bytes, and the steps that have none: clearing, adding, building, counting. Assumes nothing.
+-- A turn of each loop over slots in bytes, and the steps that have none: passing slots, clearing, adding, building, counting.
+-- Assumes nothing.
 use mathlib.Core.Path.{_≡_, refl, sym, ap, _∙_}
 use mathlib.Core.Bool.{Bool, true, false, cond}
 use mathlib.Core.List.{List, _∷_, _++_, append-nil}
 use Prim.Native.Nat.{ℕ, zero, suc, _+_, _-_, _≤_, _<_}
-use native.Mathlib.Nat.{sub-zero}
+use native.Mathlib.Nat.{add-zero, sub-zero}
 use native.Mathlib.Numerals.{add-one}
 use native.Mathlib.Omega.{arith}
 use lib.Dec.{eqb}
 use lib.ListN.{length, drop, getD, set, replicate, length-replicate, drop-of-length-le}
 use lib.Seq.{drop-cons, set-at}
 use borrow.Author.Tests.{eq-eqb, ne-eqb}
-use Rattle.slots.specs.Slots.{End, names}
+use Rattle.slots.specs.Slots.{End, names, passed}
 use Rattle.slots.specs.Stored.{slotCount, slotAt, slotsFrom, slotsOf, put, keyIn, searchedIn, added, builtIn}
 use Rattle.slots.specs.Asked.{taken}
 use Rattle.slots.specs.declared.Layout.{Layout}
 use Rattle.slots.proofs.Stored.{put-length}
+
+-- ---- passing slots, up to a place
+
+module _ (stops : ℕ → Bool) (index : List ℕ) (to : ℕ) where
+  -- where a search from a place on stops
+  abbrev pub stopFrom : ℕ → ℕ
+  stopFrom at = at + passed stops (slotsFrom index (to - at) at)
+
+  module _ (at : ℕ) where
+    pass-one : at < to
+        → passed stops (slotsFrom index (to - at) at) ≡ cond (stops (slotAt index at)) 0 (suc (passed stops (slotsFrom index (to - (at + 1)) (at + 1))))
+    unfolding slotsFrom passed
+    pass-one h = let left : to - at ≡ suc (to - (at + 1)) = omega arith in rw (left, add-one at)
+
+    pub stop-here : at < to → stops (slotAt index at) ≡ true → stopFrom at ≡ at
+    stop-here h e = rw (pass-one h, e) (add-zero at)
+
+    pub stop-later : at < to → stops (slotAt index at) ≡ false → stopFrom (at + 1) ≡ stopFrom at
+    stop-later h e = rw (pass-one h, e) (omega arith)
+
+    pub stop-ends : to ≤ at → stopFrom at ≡ at
+    unfolding slotsFrom passed
+    stop-ends h = let left : to - at ≡ 0 = omega arith in rw left (add-zero at)
 
 -- ---- adding
 

@@ -1,8 +1,8 @@
--- A search over slots as a list: where it starts, which slot comes after so many others, what it holds and how it is set, and where a
--- search stops. Assumes nothing.
+-- A search over slots as a list: where it starts, how many slots it passes in two runs, which slot comes after so many others, what it
+-- holds and how it is set, and where a search stops. Assumes nothing.
 use mathlib.Core.Path.{_≡_, refl, sym, ap, _∙_}
 use mathlib.Core.Logic.{⊎-elim}
-use mathlib.Core.Bool.{Bool, true, false, not, _&&_, false≢true, and-eq-true-iff}
+use mathlib.Core.Bool.{Bool, true, false, cond, not, _&&_, false≢true, and-eq-true-iff}
 use mathlib.Core.List.{List, [], _∷_, _++_}
 use Prim.Native.Nat.{ℕ, zero, suc, _+_, _-_, _%_, _≤_, _<_}
 use native.Mathlib.Nat.{mod-lt, zero-add, suc-add}
@@ -13,7 +13,7 @@ use lib.Seq.{getD-append-add, getD-take, getD-drop, set-append-left, drop-set-ad
 use borrow.Author.Tests.{lt-ltb, le-ltb, eq-eqb, ne-eqb, le-leb, lt-leb, leb-true}
 use Rattle.wire.specs.Field.{same}
 use Rattle.wire.proofs.Sides.{le-or-lt}
-use Rattle.slots.specs.Slots.{startAt, turned, placeAfter, names, stopsAt}
+use Rattle.slots.specs.Slots.{startAt, turned, placeAfter, passed, names, stopsAt}
 
 -- ---- the start
 
@@ -26,6 +26,42 @@ pub start-within : (v n : ℕ) → startAt v n ≤ n
 unfolding startAt
 start-within v zero = omega arith
 start-within v (suc n) = let below : v % suc n < suc n = mod-lt v (omega arith) in omega arith
+
+-- ---- the slots passed, in all and in two runs
+
+module _ (stops : ℕ → Bool) where
+  pub passed-within : (xs : List ℕ) → passed stops xs ≤ length xs
+  unfolding passed
+  passed-within [] = omega arith
+  passed-within (x ∷ xs) = either (passed-within xs) (stops x)
+    where
+      either : passed stops xs ≤ length xs → (t : Bool) → cond t 0 (suc (passed stops xs)) ≤ suc (length xs)
+      either rest true = omega arith
+      either rest false = omega arith
+
+  -- it stops in the first run
+  pub passed-first : (xs ys : List ℕ) → passed stops xs < length xs → passed stops (xs ++ ys) ≡ passed stops xs
+  unfolding passed
+  passed-first [] ys h = absurd (omega arith)
+  passed-first (x ∷ xs) ys h = either (passed-first xs ys) (stops x) h
+    where
+      either : (passed stops xs < length xs → passed stops (xs ++ ys) ≡ passed stops xs) → (t : Bool)
+          → cond t 0 (suc (passed stops xs)) < suc (length xs)
+          → cond t 0 (suc (passed stops (xs ++ ys))) ≡ cond t 0 (suc (passed stops xs))
+      either rest true h = refl
+      either rest false h = ap suc (rest (omega arith))
+
+  -- it passes all of the first run
+  pub passed-second : (xs ys : List ℕ) → length xs ≤ passed stops xs → passed stops (xs ++ ys) ≡ length xs + passed stops ys
+  unfolding passed
+  passed-second [] ys h = sym (zero-add (passed stops ys))
+  passed-second (x ∷ xs) ys h = either (passed-second xs ys) (stops x) h
+    where
+      either : (length xs ≤ passed stops xs → passed stops (xs ++ ys) ≡ length xs + passed stops ys) → (t : Bool)
+          → suc (length xs) ≤ cond t 0 (suc (passed stops xs))
+          → cond t 0 (suc (passed stops (xs ++ ys))) ≡ suc (length xs) + passed stops ys
+      either rest true h = absurd (omega arith)
+      either rest false h = ap suc (rest (omega arith)) ∙ sym (suc-add (length xs) (passed stops ys))
 
 -- ---- the slot after so many others
 

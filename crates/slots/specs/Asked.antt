@@ -43,10 +43,6 @@ pub record Begun (key : List ℕ) (n i v : ℕ) : Type 0 where
   pub inside : i ≤ length key
   pub rest : v ≡ startAt (digits (take i key)) n
 
--- the slot after one of n, round the end
-abbrev pub slotAfter : ℕ → ℕ → ℕ
-slotAfter at n = cond (eqb (at + 1) n) 0 (at + 1)
-
 abbrev pub endOf : Ended → End
 endOf e = record { place = e .place; name = e .name; read = e .read }
 

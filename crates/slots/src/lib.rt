@@ -6,7 +6,7 @@ ghost use lib.ListN.{length, replicate};
 ghost use Rattle.wire.specs.Field.{same};
 ghost use Rattle.slots.specs.Slots.{startAt, names, stopsAt};
 ghost use Rattle.slots.specs.Stored.{digits, slotWidth, mostSlots, slotCount, slotAt, slotsOf, keyIn, searchedIn, added, builtIn};
-ghost use Rattle.slots.specs.Asked.{Within, Sized, frontWidth, frontIn, frontAt, Behind, Begun, slotAfter, endOf, taken};
+ghost use Rattle.slots.specs.Asked.{Within, Sized, frontWidth, frontIn, frontAt, Behind, Begun, endOf, taken};
 
 pub const SLOT_WIDTH: usize = 4;
 
@@ -140,18 +140,7 @@ fn stops_at(layout: Layout, records: &[u8], bound: u32, looked: &[u8], name: u32
     texts::same(key_in(layout, records, name - 1), looked)
 }
 
-// The slot after one, round the end.
-fn after(at: u32, n: u32) -> u32
-    requires { ⌜ at < n ⌝ }
-    ensures { λ r. ⌜ r ≡ slotAfter at n ⌝ }
-{
-    if at + 1 == n {
-        return 0;
-    }
-    at + 1
-}
-
-// Looks for a key among the first `bound` records, slot after slot from the one where its search starts.
+// Looks for a key among the first `bound` records, from the slot where its search starts up to the last slot, then from the first.
 fn search_from(
     layout: Layout,
     records: &[u8],
@@ -165,18 +154,28 @@ fn search_from(
 {
     let n = slot_count(index);
     let mut at = from;
-    let mut read = 0;
-    while read < n {
+    while at < n {
         let name = slot_at(index, at);
-        read += 1;
         if stops_at(layout, records, bound, looked, name) {
             return Ended {
                 place: at,
                 name,
-                read,
+                read: at - from + 1,
             };
         }
-        at = after(at, n);
+        at += 1;
+    }
+    let mut round = 0;
+    while round < from {
+        let name = slot_at(index, round);
+        if stops_at(layout, records, bound, looked, name) {
+            return Ended {
+                place: round,
+                name,
+                read: n - from + round + 1,
+            };
+        }
+        round += 1;
     }
     Ended {
         place: n,

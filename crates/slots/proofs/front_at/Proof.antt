@@ -1,12 +1,11 @@
 -- `slots::front_at` meets its contract: equal fronts come to the same. Assumes nothing.
-use mathlib.Core.Path.{_≡_, sym, ap, _∙_}
+use mathlib.Core.Path.{sym, ap, _∙_}
 use mathlib.Core.List.{List}
 use Prim.Native.Nat.{ℕ, _-_, _<_}
 use native.Mathlib.Omega.{arith}
 use Rattle.wire.proofs.Texts.{same-equal}
 use Rattle.slots.specs.Slots.{startAt}
 use Rattle.slots.specs.Stored.{digits}
-use Rattle.slots.specs.Asked.{frontAt}
 use borrow.Author.Needs.{needs}
 use Rattle.slots.proofs.front_at.Statement.{statement}
 use Rattle.slots.proofs.front_at.Tie as tie

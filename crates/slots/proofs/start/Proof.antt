@@ -1,7 +1,6 @@
 -- `slots::start` meets its contract: before the first byte nothing is taken in. Assumes nothing.
 use native.Mathlib.Omega.{arith}
 use Rattle.slots.proofs.Starts.{start-empty}
-use borrow.Author.Needs.{needs}
 use Rattle.slots.proofs.start.Statement.{statement}
 use Rattle.slots.proofs.start.Tie as tie
 
