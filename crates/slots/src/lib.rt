@@ -63,7 +63,8 @@ fn key_in(layout: Layout, records: &[u8], k: u32) -> &[u8]
     &records[at..end]
 }
 
-// Which of n slots a key's search looks at first, where its first i bytes come to v. Four digits are taken in before each remainder.
+// Which of n slots a key's search looks at first, where the bytes before place `from` come to `front`. Four digits are taken in before
+// each remainder.
 fn start_from(key: &[u8], n: u32, from: usize, front: u32) -> u32
     requires { ⌜ Begun (now key) n from front ⌝ }
     ensures { λ r. ⌜ r ≡ startAt (digits (now (key .entry))) n ⌝ }
@@ -184,7 +185,7 @@ fn search_from(
     }
 }
 
-// Any index will do; the records have to reach.
+// Looks for a key among the first `bound` records. Any index will do; the records have to reach.
 pub fn search(layout: Layout, records: &[u8], bound: u32, looked: &[u8], index: &[u8]) -> Ended
     requires { ⌜ Within layout (now records) bound ⌝ }
     ensures { λ r. ⌜ endOf r ≡ searchedIn layout (now (records .entry)) bound (now (looked .entry)) (now (index .entry)) ⌝ }

@@ -1,5 +1,5 @@
-// Numbers and text read from bytes. Every function takes any slice and any place: a field that runs past the end is read as what is
-// left of it. So nobody above has to ask first.
+// Numbers and text read from bytes. Every function but `four_at` takes any slice and any place: a field that runs past the end is read as
+// what is left of it. So nobody above has to ask first.
 ghost use mathlib.Core.Path.{_≡_};
 ghost use Prim.Native.Nat.{_+_, _%_, _^_, _≤_, _<_, min};
 ghost use lib.ListN.{length};
