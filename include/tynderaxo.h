@@ -1,5 +1,6 @@
 /*
- * Tynderaxo: reads documents (pacs.008.001.08, pacs.004.001.09) into a sheet, and judges a sheet before it goes to clearing.
+ * Tynderaxo: reads documents (pacs.008.001.08, pacs.004.001.09) into a sheet, judges a sheet before it goes to clearing, and tells
+ * open days.
  *
  * What a caller owes, for all functions:
  *   - each pointer is valid for the length beside it: for reading where it is const, else for reading and writing;
@@ -65,7 +66,7 @@ typedef struct {
  *    5   no messages                                        payment: original amount, reason or original name given
  *    6   stated number is not the actual one                return: reason not of the list
  *    7   stated sum is not the true one                     return: original name not of the list
- *    8                                                      return: amount over the original amount; with another
+ *    8   value date is no open day (below)                  return: amount over the original amount; with another
  *                                                           reason than FOCR, also under it
  */
 tynderaxo_answer tynderaxo_judge(uint32_t date,
@@ -152,6 +153,29 @@ typedef struct {
  * however long the text is and however deep its elements stand.
  */
 tynderaxo_read_answer tynderaxo_read(const uint8_t *document, size_t document_len, uint8_t *sheet, size_t sheet_len);
+
+/*
+ * Open days of TARGET: every day of the years 2000 to 2299 but Saturdays, Sundays, 1 January, Good Friday, Easter Monday, 1 May,
+ * 25 and 26 December. A date is the number YYYYMMDD.
+ *
+ * number: 0 if the question was answered, else the first of these that holds:
+ *   31  a date is not a day of the years 2000 to 2299; of two dates, either
+ *   32  no open day of those years comes later
+ * value:  the answer; 0 with any refusal.
+ */
+typedef struct {
+    uint32_t number;
+    uint32_t value;
+} tynderaxo_day;
+
+/* 1 if the date is an open day, 0 if it is a closed one; or 31. */
+tynderaxo_day tynderaxo_open_day(uint32_t date);
+
+/* The first open day after the date, which may itself be open or closed; or 31 or 32. */
+tynderaxo_day tynderaxo_next_open_day(uint32_t date);
+
+/* How many open days there are from the first date up to the second, which is not counted; 0 if that is not later; or 31. */
+tynderaxo_day tynderaxo_open_days(uint32_t from, uint32_t to);
 
 #ifdef __cplusplus
 }

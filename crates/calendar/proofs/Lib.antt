@@ -1,4 +1,7 @@
+pub mod Agree
 pub mod Cases
 pub mod Computing
+pub mod Counting
+pub mod Days
 pub mod Facts
 pub mod Order

@@ -48,11 +48,11 @@ order a b =
 grows : (f : ℕ → ℕ) → ((n : ℕ) → f n ≤ f (suc n)) → (m n : ℕ) → m ≤ n → f m ≤ f n
 grows f step m n h = le-ind (λ k. f m ≤ f k) (le-refl (f m)) (λ k l r. le-trans r (step k)) n h
 
-monthsGrow : (y m n : ℕ) → m ≤ n → daysOfMonths y m ≤ daysOfMonths y n
+pub monthsGrow : (y m n : ℕ) → m ≤ n → daysOfMonths y m ≤ daysOfMonths y n
 unfolding daysOfMonths
 monthsGrow y = grows (daysOfMonths y) (λ n. omega arith)
 
-yearsGrow : (m n : ℕ) → m ≤ n → daysOfYears m ≤ daysOfYears n
+pub yearsGrow : (m n : ℕ) → m ≤ n → daysOfYears m ≤ daysOfYears n
 unfolding daysOfYears
 yearsGrow = grows daysOfYears (λ n. omega arith)
 
@@ -65,7 +65,7 @@ wholeYear y = go (leap y) refl
     go true e = rw e
     go false e = rw e
 
-nextYear : (y : ℕ) → firstYear ≤ y → daysOfYears (suc (y - firstYear)) ≡ daysOfYears (y - firstYear) + daysInYear y
+pub nextYear : (y : ℕ) → firstYear ≤ y → daysOfYears (suc (y - firstYear)) ≡ daysOfYears (y - firstYear) + daysInYear y
 unfolding daysOfYears
 nextYear y h = rw (add-sub-of-le h)
 
@@ -75,7 +75,7 @@ unfolding daysOfMonths
 laterMonth a m f l = omega (arith, monthsGrow (year a) (suc (month a)) m l)
 
 -- and before each later year
-laterYear : (a y : ℕ) → DateFacts a → year a < y → dayNumber a < daysOfYears (y - firstYear)
+pub laterYear : (a y : ℕ) → DateFacts a → year a < y → dayNumber a < daysOfYears (y - firstYear)
 unfolding dayNumber
 laterYear a y f l =
     omega (

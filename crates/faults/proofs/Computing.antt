@@ -1,4 +1,5 @@
 -- On an `unfolding` line: a case computes with faults. Assumes nothing.
+use Rattle.opendays.proofs.Computing.{openDaysCompute}
 use Rattle.masks.proofs.Computing.{masksCompute}
 use Rattle.routing.proofs.Computing.{lookupComputes}
 use Rattle.sheet.proofs.Computing.{sheetsCompute}
@@ -7,5 +8,5 @@ use Rattle.wording.proofs.Computing.{wordingComputes}
 use Rattle.faults.specs.Faults.{bulkFaults, messageFaults}
 
 unfoldable pub faultsCompute : Unit {0}
-unfolding masksCompute lookupComputes sheetsCompute registerComputes wordingComputes bulkFaults messageFaults
+unfolding openDaysCompute masksCompute lookupComputes sheetsCompute registerComputes wordingComputes bulkFaults messageFaults
 faultsCompute = tt

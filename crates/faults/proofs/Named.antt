@@ -10,9 +10,9 @@ use Rattle.sheet.specs.Sheet.{kindOf, bulkIdentifierOf, senderOf, statedNumberO
 use Rattle.register.specs.Register.{messageTag, bulkTag}
 use Rattle.wording.specs.Wording.{badlyFormed}
 use Rattle.rules.specs.declared.Terms.{Terms}
-use Rattle.rules.specs.OfBulk.{marksWrong, noParticipant, dateWrong, repeated, empty, numberWrong, sumWrong}
+use Rattle.rules.specs.OfBulk.{marksWrong, noParticipant, dateWrong, dateClosed, repeated, empty, numberWrong, sumWrong}
 use Rattle.rules.specs.OfMessage.{receiverBadlyFormed, unreachable, amountWrong, tellsOriginal, reasonUnknown, nameUnknown, returnedAmountWrong}
-use Rattle.faults.specs.Bits.{marksWrongBit, noParticipantBit, dateWrongBit, bulkBadlyFormedBit, bulkRepeatedBit, emptyBit, numberWrongBit, sumWrongBit, badlyFormedBit, repeatedBit, receiverBadlyFormedBit, unreachableBit, amountWrongBit, tellsOriginalBit, reasonUnknownBit, nameUnknownBit, returnedAmountWrongBit}
+use Rattle.faults.specs.Bits.{marksWrongBit, noParticipantBit, dateWrongBit, bulkBadlyFormedBit, bulkRepeatedBit, emptyBit, numberWrongBit, sumWrongBit, dateClosedBit, badlyFormedBit, repeatedBit, receiverBadlyFormedBit, unreachableBit, amountWrongBit, tellsOriginalBit, reasonUnknownBit, nameUnknownBit, returnedAmountWrongBit}
 use Rattle.faults.specs.Faults.{senderRow, receiverRow, bulkFacts, bulkFaults, messageFacts, messageFaults}
 
 module _ (terms : Terms) (table register header : List ℕ) (number sum : ℕ) where
@@ -38,12 +38,13 @@ module _ (terms : Terms) (table register header : List ℕ) (number sum : ℕ) w
     pub atEmptyBit : ofBulk emptyBit ≡ empty number
     pub atNumberWrongBit : ofBulk numberWrongBit ≡ numberWrong (statedNumberOf header) number
     pub atSumWrongBit : ofBulk sumWrongBit ≡ sumWrong (statedSumOf header) sum
+    pub atDateClosedBit : ofBulk dateClosedBit ≡ dateClosed (valueDateOf header)
 
   pub bulk-bits : BulkBits
-  bulk-bits = record { atMarksWrongBit = refl; atNoParticipantBit = refl; atDateWrongBit = refl; atBulkBadlyFormedBit = refl; atBulkRepeatedBit = refl; atEmptyBit = refl; atNumberWrongBit = refl; atSumWrongBit = refl }
+  bulk-bits = record { atMarksWrongBit = refl; atNoParticipantBit = refl; atDateWrongBit = refl; atBulkBadlyFormedBit = refl; atBulkRepeatedBit = refl; atEmptyBit = refl; atNumberWrongBit = refl; atSumWrongBit = refl; atDateClosedBit = refl }
 
   -- and no fact stands past them
-  bulk-all : length (bulkFacts terms table register header number sum) ≡ sumWrongBit + 1
+  bulk-all : length (bulkFacts terms table register header number sum) ≡ dateClosedBit + 1
   bulk-all = refl
 
 module _ (terms : Terms) (table register header message : List ℕ) where

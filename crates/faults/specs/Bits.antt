@@ -27,6 +27,9 @@ numberWrongBit = 6
 abbrev pub sumWrongBit : ℕ
 sumWrongBit = 7
 
+abbrev pub dateClosedBit : ℕ
+dateClosedBit = 8
+
 -- ---- of a message
 
 abbrev pub badlyFormedBit : ℕ

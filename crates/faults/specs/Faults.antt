@@ -9,7 +9,7 @@ use Rattle.sheet.specs.Sheet.{kindOf, bulkIdentifierOf, senderOf, statedNumberO
 use Rattle.register.specs.Register.{messageTag, bulkTag}
 use Rattle.wording.specs.Wording.{badlyFormed}
 use Rattle.rules.specs.declared.Terms.{Terms}
-use Rattle.rules.specs.OfBulk.{marksWrong, noParticipant, dateWrong, repeated, empty, numberWrong, sumWrong}
+use Rattle.rules.specs.OfBulk.{marksWrong, noParticipant, dateWrong, dateClosed, repeated, empty, numberWrong, sumWrong}
 use Rattle.rules.specs.OfMessage.{receiverBadlyFormed, unreachable, amountWrong, tellsOriginal, reasonUnknown, nameUnknown, returnedAmountWrong}
 
 -- ---- the rows
@@ -35,6 +35,7 @@ bulkFactsGiven repeats terms table header number sum =
     ∷ empty number
     ∷ numberWrong (statedNumberOf header) number
     ∷ sumWrong (statedSumOf header) sum
+    ∷ dateClosed (valueDateOf header)
     ∷ []
 
 abbrev pub bulkFacts : Terms → List ℕ → List ℕ → List ℕ → ℕ → ℕ → List Bool

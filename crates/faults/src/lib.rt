@@ -28,6 +28,8 @@ pub const NUMBER_WRONG: u16 = 6;
 
 pub const SUM_WRONG: u16 = 7;
 
+pub const DATE_CLOSED: u16 = 8;
+
 // The bits of a message's faults.
 pub const BADLY_FORMED: u16 = 0;
 
@@ -70,6 +72,7 @@ pub fn bulk_faults(
     let empty = rules::empty(number);
     let number_wrong = rules::number_wrong(header.number, number);
     let sum_wrong = rules::sum_wrong(header.sum, sum);
+    let date_closed = rules::date_closed(header.date);
     let m = masks::flag(0, MARKS_WRONG, marks_wrong);
     let m = masks::flag(m, NO_PARTICIPANT, no_participant);
     let m = masks::flag(m, DATE_WRONG, date_wrong);
@@ -77,7 +80,8 @@ pub fn bulk_faults(
     let m = masks::flag(m, BULK_REPEATED, repeats);
     let m = masks::flag(m, EMPTY, empty);
     let m = masks::flag(m, NUMBER_WRONG, number_wrong);
-    masks::flag(m, SUM_WRONG, sum_wrong)
+    let m = masks::flag(m, SUM_WRONG, sum_wrong);
+    masks::flag(m, DATE_CLOSED, date_closed)
 }
 
 // The faults of a message of that bulk.

@@ -35,6 +35,9 @@ module _ {M : Type 1} (𝓤 : URA M) (H : Heap 𝓤) (A : Atoms 𝓤) (mem : Mem
   pub rules·date-wrong : Determined 𝓤 H A mem run rules.date_wrong.ended rules.date_wrong.clauses
   rules·date-wrong κs a g r r' ws ws' h h' = (truth 𝓤 _ (h .told) (h' .told), refl)
 
+  pub rules·date-closed : Determined 𝓤 H A mem run rules.date_closed.ended rules.date_closed.clauses
+  rules·date-closed κs a g r r' ws ws' h h' = (truth 𝓤 _ (h .told) (h' .told), refl)
+
   pub rules·empty : Determined 𝓤 H A mem run rules.empty.ended rules.empty.clauses
   rules·empty κs a g r r' ws ws' h h' = (truth 𝓤 _ (h .told) (h' .told), refl)
 

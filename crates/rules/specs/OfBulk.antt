@@ -4,6 +4,7 @@ use mathlib.Core.Bool.{Bool, not}
 use mathlib.Core.List.{List}
 use mathlib.Core.Option.{Option}
 use lib.Dec.{eqb}
+use Rattle.opendays.specs.OpenDay.{openDay}
 use Rattle.routing.specs.Lookup.{participates}
 use Rattle.register.specs.Register.{key, stands}
 use Rattle.rules.specs.declared.Terms.{Terms}
@@ -23,6 +24,10 @@ dateWrong terms date = not (eqb date (terms .date))
 -- the key of sender, identifier and tag is in the register: a bulk's here, a message's among its facts
 abbrev pub repeated : List ℕ → List ℕ → List ℕ → ℕ → Bool
 repeated register sender identifier tag = stands register (key sender identifier tag)
+
+-- the value date is no open day, whatever the call's date is
+abbrev pub dateClosed : ℕ → Bool
+dateClosed date = not (openDay date)
 
 -- no messages
 abbrev pub empty : ℕ → Bool

@@ -3,7 +3,7 @@
 ghost use mathlib.Core.Path.{_≡_};
 ghost use Rattle.routing.specs.Lookup.{optionOf};
 ghost use Rattle.tally.specs.Tally.{centsOf};
-ghost use Rattle.rules.specs.OfBulk.{marksWrong, noParticipant, dateWrong, empty, numberWrong, sumWrong};
+ghost use Rattle.rules.specs.OfBulk.{marksWrong, noParticipant, dateWrong, dateClosed, empty, numberWrong, sumWrong};
 ghost use Rattle.rules.specs.OfMessage.{receiverBadlyFormed, unreachable, amountWrong, tellsOriginal, reasonUnknown, nameUnknown, returnedAmountWrong};
 use routing::Found;
 use tally::Cents;
@@ -48,6 +48,13 @@ pub fn date_wrong(terms: Terms, date: u32) -> bool
     ensures { λ r. ⌜ r ≡ dateWrong terms date ⌝ }
 {
     date != terms.date
+}
+
+// Whether a value date is no open day.
+pub fn date_closed(date: u32) -> bool
+    ensures { λ r. ⌜ r ≡ dateClosed date ⌝ }
+{
+    !opendays::is_open(date)
 }
 
 // Whether a bulk holds no message.

@@ -1,4 +1,4 @@
--- What the doors' structs say, as the definitions of the judge, of the lookup and of the reader say it. Assumes nothing.
+-- What the doors' structs say, as the definitions of the judge, of the lookup, of the reader and of open days say it. Assumes nothing.
 use mathlib.Core.List.{List}
 use Prim.Native.Nat.{ℕ}
 use Rattle.judging.specs.Outcome.{Outcome}
@@ -7,6 +7,9 @@ use Rattle.routing.specs.Lookup.{Routed}
 use Rattle.tynderaxo.specs.declared.TynderaxoAnswer.{TynderaxoAnswer}
 use Rattle.tynderaxo.specs.declared.TynderaxoIndexedAnswer.{TynderaxoIndexedAnswer}
 use Rattle.reading.specs.Reading as reading
+use Rattle.opendays.specs.Questions as opendays
+use Rattle.opendays.specs.declared.Answer as days
+use Rattle.tynderaxo.specs.declared.TynderaxoDay.{TynderaxoDay}
 use Rattle.tynderaxo.specs.declared.TynderaxoRoute.{TynderaxoRoute}
 use Rattle.tynderaxo.specs.declared.TynderaxoReadAnswer.{TynderaxoReadAnswer}
 
@@ -39,3 +42,14 @@ readOutcome answer sheet = record { number = answer .number; length = answer .le
 abbrev pub inNumbers : reading.Outcome → ReadOutcome
 inNumbers o =
     record { number = reading.numberOf (o .answer); length = reading.lengthOf (o .answer); at = reading.whereOf (o .answer); sheet = o .sheet }
+
+-- an answer about open days in numbers
+pub record DayTold : Type 0 where
+  pub number : ℕ
+  pub value : ℕ
+
+abbrev pub dayTold : TynderaxoDay → DayTold
+dayTold d = record { number = d .number; value = d .value }
+
+abbrev pub dayInNumbers : days.Answer → DayTold
+dayInNumbers a = record { number = opendays.numberOf a; value = opendays.valueOf a }

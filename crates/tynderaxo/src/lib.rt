@@ -1,4 +1,4 @@
-// The doors for C: the proved judge, plain and with an index, lookup and reader under C's calling convention, and nothing else. A caller owes what
+// The doors for C: the proved judge, plain and with an index, lookup, reader and open days under C's calling convention, and nothing else. A caller owes what
 // include/tynderaxo.h says: pointers that are valid for their lengths, and no written buffer over another.
 ghost use mathlib.Core.Path.{_≡_};
 ghost use Rattle.judging.specs.Outcome.{outcome};
@@ -7,7 +7,8 @@ ghost use Rattle.refusing.specs.Checking.{callOf};
 ghost use Rattle.rules.specs.Terms.{dated};
 ghost use Rattle.routing.specs.Lookup.{lookup};
 ghost use Rattle.reading.specs.Reading.{reads};
-ghost use Rattle.tynderaxo.specs.Doors.{doorOutcome, indexedDoorOutcome, routedBy, readOutcome, inNumbers};
+ghost use Rattle.opendays.specs.Questions.{openDayAnswer, nextOpenDayAnswer, openDaysAnswer};
+ghost use Rattle.tynderaxo.specs.Doors.{doorOutcome, indexedDoorOutcome, routedBy, readOutcome, inNumbers, dayTold, dayInNumbers};
 use routing::Answer;
 use rules::Terms;
 
@@ -41,6 +42,13 @@ pub struct TynderaxoReadAnswer {
     pub number: u32,
     pub length: u64,
     pub at: u64,
+}
+
+// A refusal's number and the value 0, or 0 and what was asked.
+#[repr(C)]
+pub struct TynderaxoDay {
+    pub number: u32,
+    pub value: u32,
 }
 
 #[no_mangle]
@@ -134,5 +142,38 @@ pub extern "C" fn tynderaxo_read(document: &[u8], sheet: &mut [u8]) -> Tynderaxo
         number: reading::number_of(reading),
         length: reading::length_of(reading) as u64,
         at: reading::place_in(reading) as u64,
+    }
+}
+
+#[no_mangle]
+pub extern "C" fn tynderaxo_open_day(date: u32) -> TynderaxoDay
+    ensures { λ r. ⌜ dayTold r ≡ dayInNumbers (openDayAnswer date) ⌝ }
+{
+    let answer = opendays::open_day(date);
+    TynderaxoDay {
+        number: opendays::number_of(answer),
+        value: opendays::value_of(answer),
+    }
+}
+
+#[no_mangle]
+pub extern "C" fn tynderaxo_next_open_day(date: u32) -> TynderaxoDay
+    ensures { λ r. ⌜ dayTold r ≡ dayInNumbers (nextOpenDayAnswer date) ⌝ }
+{
+    let answer = opendays::next_open_day(date);
+    TynderaxoDay {
+        number: opendays::number_of(answer),
+        value: opendays::value_of(answer),
+    }
+}
+
+#[no_mangle]
+pub extern "C" fn tynderaxo_open_days(from: u32, to: u32) -> TynderaxoDay
+    ensures { λ r. ⌜ dayTold r ≡ dayInNumbers (openDaysAnswer from to) ⌝ }
+{
+    let answer = opendays::open_days(from, to);
+    TynderaxoDay {
+        number: opendays::number_of(answer),
+        value: opendays::value_of(answer),
     }
 }

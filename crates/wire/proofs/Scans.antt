@@ -55,6 +55,26 @@ module _ (f : ℕ → Bool) where
       by-test rest true here found = let same : i ≡ k = cc in (omega arith, omega arith, rw (← same) here)
       by-test rest false here found = let later = rest found in (omega arith, omega arith, later .2)
 
+  -- at none of the places before it
+  pub first-before : (n i k : ℕ) → firstFrom f n i ≡ some k → (j : ℕ) → i ≤ j → j < k → f j ≡ false
+  unfolding firstFrom
+  first-before zero i k e j low high = absurd (let z : _≡_ {A = ℕ} 0 1 = cc in omega arith)
+  first-before (suc n) i k e j low high = by-test (λ found l. first-before n (suc i) k found j l high) (f i) refl e
+    where
+      by-test : (firstFrom f n (suc i) ≡ some k → suc i ≤ j → f j ≡ false) → (t : Bool) → f i ≡ t → cond t (some i) (firstFrom f n (suc i)) ≡ some k → f j ≡ false
+      by-test rest true here found = let same : i ≡ k = cc in absurd (omega arith)
+      by-test rest false here found = ⊎-elim (λ (q : i ≡ j). rw (← q) here) (λ (l : i < j). rest found l) (eq-or-lt-of-le low)
+
+  -- where no place was found, at none of them
+  pub first-nowhere : (n i : ℕ) → firstFrom f n i ≡ none → (j : ℕ) → i ≤ j → j < i + n → f j ≡ false
+  unfolding firstFrom
+  first-nowhere zero i e j low high = absurd (omega arith)
+  first-nowhere (suc n) i e j low high = by-test (λ found l. first-nowhere n (suc i) found j l (omega arith)) (f i) refl e
+    where
+      by-test : (firstFrom f n (suc i) ≡ none → suc i ≤ j → f j ≡ false) → (t : Bool) → f i ≡ t → cond t (some i) (firstFrom f n (suc i)) ≡ none → f j ≡ false
+      by-test rest true here found = absurd (let z : _≡_ {A = ℕ} 0 1 = cc in omega arith)
+      by-test rest false here found = ⊎-elim (λ (q : i ≡ j). rw (← q) here) (λ (l : i < j). rest found l) (eq-or-lt-of-le low)
+
   -- a place at which the test holds, and at none before it
   first-at : (n i k : ℕ) → i ≤ k → k < i + n → f k ≡ true → ((j : ℕ) → j < k → f j ≡ true → ⊥) → firstFrom f n i ≡ some k
   unfolding firstFrom

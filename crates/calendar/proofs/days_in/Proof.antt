@@ -2,9 +2,7 @@
 -- Assumes nothing.
 use mathlib.Core.Path.{_≡_, refl, sym}
 use mathlib.Core.Bool.{Bool, true, false, cond, _&&_, _||_}
-use mathlib.Core.Logic.{⊎-elim}
-use Prim.Native.Nat.{ℕ, zero, suc, _≤_, _<_}
-use native.Mathlib.Nat.{eq-or-lt-of-le, le-of-suc-le-suc}
+use Prim.Native.Nat.{ℕ, _≤_, _<_}
 use native.Mathlib.Decide.{decLt}
 use native.Mathlib.Omega.{arith}
 use borrow.Author.Needs.{needs}
@@ -12,6 +10,7 @@ use borrow.Author.Tests.{eq-eqb, ne-eqb, le-leb, lt-leb}
 use lib.Dec.{leb, eqb, lit≤}
 use Rattle.calendar.specs.Date.{leap, daysIn}
 use Rattle.calendar.proofs.Facts.{noMonth}
+use Rattle.calendar.proofs.Agree.{agree}
 use Rattle.calendar.proofs.days_in.Statement.{statement}
 use Rattle.calendar.proofs.days_in.Tie as tie
 
@@ -24,16 +23,6 @@ oneOfTwelve m = leb 1 m && leb m 12
 -- the tests of the code, in their order
 byTests : ℕ → ℕ → ℕ
 byTests y m = cond (eqb m 2) (cond (leap y) 29 28) (cond (short m) 30 (cond (oneOfTwelve m) 31 0))
-
--- f and g agree at each number below n
-abbrev Agree : (ℕ → ℕ) → (ℕ → ℕ) → ℕ → Type 0
-Agree f g zero = Unit {0}
-Agree f g (suc n) = Agree f g n × (f n ≡ g n)
-
-agree : (f g : ℕ → ℕ) (n : ℕ) → Agree f g n → (m : ℕ) → m < n → f m ≡ g m
-agree f g zero t m h = absurd (omega arith)
-agree f g (suc n) t m h =
-    ⊎-elim (λ (e : m ≡ n). rw e (t .1)) (λ l. agree f g n (t .0) m l) (eq-or-lt-of-le (le-of-suc-le-suc h))
 
 -- from 0, which is no month, to December, one `refl` each
 inTable : (y m : ℕ) → m < 13 → byTests y m ≡ daysIn y m

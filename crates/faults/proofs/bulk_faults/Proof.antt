@@ -5,7 +5,7 @@ use mathlib.Core.List.{[]}
 use Rattle.masks.proofs.Laws.{no-facts, flag-next}
 use Rattle.wording.specs.Wording.{badlyFormed}
 use Rattle.tally.specs.Tally.{centsOf}
-use Rattle.rules.specs.OfBulk.{marksWrong, noParticipant, dateWrong, numberWrong, sumWrong}
+use Rattle.rules.specs.OfBulk.{marksWrong, noParticipant, dateWrong, numberWrong, sumWrong, dateClosed}
 use borrow.Author.Needs.{needs}
 use Rattle.faults.proofs.bulk_faults.Statement.{statement}
 use Rattle.faults.proofs.bulk_faults.Tie as tie
@@ -13,7 +13,8 @@ use Rattle.faults.proofs.bulk_faults.Tie as tie
 returns : tie.Need-returns
 returns c =
     -- after each bit was set, from the last to the first
-    let at7 = c in
+    let at8 = c in
+    let at7 = at8 .before in
     let at6 = at7 .before in
     let at5 = at6 .before in
     let at4 = at5 .before in
@@ -22,7 +23,8 @@ returns c =
     let at1 = at2 .before in
     let at0 = at1 .before in
     -- after each fact was asked; that of a repeat was asked before
-    let f7 = at0 .before in
+    let f8 = at0 .before in
+    let f7 = f8 .before in
     let f6 = f7 .before in
     let f5 = f6 .before in
     let f3 = f5 .before in
@@ -41,7 +43,8 @@ returns c =
     let m4 = flag-next _ _ _ _ _ m3 (at4 .flag5 .ensures .0) refl in
     let m5 = flag-next _ _ _ _ _ m4 (at5 .flag6 .ensures .0) (f5 .empty .ensures) in
     let m6 = flag-next _ _ _ _ _ m5 (at6 .flag7 .ensures .0) (f6 .number-wrong .ensures ∙ (λ i. numberWrong (asked .read .number i) (a .number))) in
-    flag-next _ _ _ _ _ m6 (at7 .flag8 .ensures .0) (f7 .sum-wrong .ensures ∙ (λ i. sumWrong (asked .read .sum i) (centsOf (a .sum))))
+    let m7 = flag-next _ _ _ _ _ m6 (at7 .flag8 .ensures .0) (f7 .sum-wrong .ensures ∙ (λ i. sumWrong (asked .read .sum i) (centsOf (a .sum)))) in
+    flag-next _ _ _ _ _ m7 (at8 .flag9 .ensures .0) (f8 .date-closed .ensures ∙ ap dateClosed (asked .read .date))
 
 pub bulk-faults-spec : {M : Type 1} → statement M
 bulk-faults-spec =
@@ -51,4 +54,5 @@ bulk-faults-spec =
     (λ c κs. search needs) (λ c κs. search needs) (λ c κs. search needs) (λ c κs. search needs)
     (λ c κs. search needs) (λ c κs. search needs) (λ c κs. search needs) (λ c κs. search needs)
     (λ c κs. search needs) (λ c κs. search needs) (λ c κs. search needs)
+    (λ c κs. search needs) (λ c κs. search needs)
     returns)

@@ -1,0 +1,5 @@
+pub mod Computing
+pub mod Count
+pub mod Next
+pub mod Stretch
+pub mod Laws

@@ -1,0 +1,48 @@
+-- `opendays::counted` meets its contract: weeks less holidays are the open days. Assumes nothing.
+use mathlib.Core.Path.{ap, _∙_}
+use native.Mathlib.Nat.{le-of-lt}
+use native.Mathlib.Omega.{arith}
+use borrow.Author.Needs.{needs}
+use Rattle.calendar.proofs.Counting.{number-small}
+use Rattle.opendays.specs.Counting.{workdaysBefore}
+use Rattle.opendays.proofs.Stretch.{stretch}
+use Rattle.opendays.proofs.counted.Statement.{statement}
+use Rattle.opendays.proofs.counted.Tie as tie
+
+workdays-before-requires : tie.Need-workdays-before-requires
+workdays-before-requires c κs = rw (c .day-number .ensures) (number-small _ (c .before .pre .1))
+
+workdays-before-requires-2 : tie.Need-workdays-before-requires-2
+workdays-before-requires-2 c κs = rw (c .day-number2 .ensures) (number-small _ (c .before .before .before .pre .0))
+
+sub-result : tie.Need-sub-result
+sub-result c =
+    let second = c .before in
+    let first = second .before in
+    let start = first .before .before in
+    let upTo = first .workdays-before .ensures ∙ ap workdaysBefore (first .before .day-number .ensures) in
+    let upFrom = c .workdays-before2 .ensures ∙ ap workdaysBefore (second .day-number2 .ensures) in
+    omega (arith, upTo, upFrom, stretch (start .args .from) (start .args .to) (start .pre .0) (start .pre .1) (le-of-lt (start .pre .2)))
+
+sub-result-2 : tie.Need-sub-result-2
+sub-result-2 c =
+    let second = c .before .before in
+    let first = second .before in
+    let start = first .before .before in
+    let upTo = first .workdays-before .ensures ∙ ap workdaysBefore (first .before .day-number .ensures) in
+    let upFrom = c .before .workdays-before2 .ensures ∙ ap workdaysBefore (second .day-number2 .ensures) in
+    omega (arith, upTo, upFrom, c .closed-between .ensures, stretch (start .args .from) (start .args .to) (start .pre .0) (start .pre .1) (le-of-lt (start .pre .2)))
+
+returns : tie.Need-returns
+returns c =
+    let second = c .before .before in
+    let first = second .before in
+    let start = first .before .before in
+    let upTo = first .workdays-before .ensures ∙ ap workdaysBefore (first .before .day-number .ensures) in
+    let upFrom = c .before .workdays-before2 .ensures ∙ ap workdaysBefore (second .day-number2 .ensures) in
+    omega (arith, upTo, upFrom, c .closed-between .ensures, stretch (start .args .from) (start .args .to) (start .pre .0) (start .pre .1) (le-of-lt (start .pre .2)))
+
+pub counted-spec : {M : Type 1} → statement M
+counted-spec =
+    tie.close
+    (tie.spec (λ c κs. search needs) workdays-before-requires (λ c κs. search needs) workdays-before-requires-2 sub-result (λ c κs. search needs) sub-result-2 returns)

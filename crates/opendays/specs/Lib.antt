@@ -1,0 +1,3 @@
+pub mod OpenDay
+pub mod Questions
+pub mod Counting
