@@ -7,6 +7,7 @@
 #include <stdlib.h>
 #include <string.h>
 
+#include "days.h"
 #include "rows.h"
 #include "search.h"
 #include "wording.h"
@@ -149,7 +150,8 @@ static uint16_t bulk_faults(const bulk *b, bool stands) {
                     | stands << 4
                     | (b->count == 0) << 5
                     | (get64(header + H_NUMBER) != b->count) << 6
-                    | (get64(header + H_SUM) != sum) << 7);
+                    | (get64(header + H_SUM) != sum) << 7
+                    | !is_open(get32(header + H_DATE)) << 8);
 }
 
 static uint16_t message_faults(const bulk *b, const uint8_t *message, bool stands, long row) {
