@@ -4,6 +4,7 @@ pub mod archive;
 pub mod call;
 pub mod checks;
 pub mod cut;
+pub mod days;
 pub mod documents;
 #[cfg(feature = "expat")]
 pub mod expat;

@@ -48,6 +48,48 @@ fn bulk_bits_alone() {
     assert_eq!(bulk_lines(&empty), [(2, 32)]);
 }
 
+/// The faults of a bulk of this value date in a call of another date or of the same.
+fn dated(date: u32, value_date: u32) -> u16 {
+    let mut header = header("D1", "AAAALV22", 1, 5);
+    put(VALUE_DATE, number(value_date.into(), 4))(&mut header);
+    let mut call = call(&[(header, vec![payment("T1", "BBBBLV22XXX", 5)])]);
+    call.date = date;
+    bulk_lines(&call)[0].1
+}
+
+#[test]
+fn a_value_date_is_open_and_that_of_the_call() {
+    // a Saturday, a Sunday, and on weekdays New Year's Day, Good Friday, Easter Monday, 1 May, 25 and 26 December
+    let closed = [20260613, 20260614, 20270101, 20260403, 20260406, 20260501, 20261225, 20281226];
+    for date in closed {
+        assert_eq!(dated(date, date), 256, "{date}");
+        assert_eq!(dated(20260615, date), 260, "{date}");
+        assert_eq!(dated(date, 20260615), 4, "{date}");
+    }
+    // the days beside them
+    let open =
+        [20260612, 20260615, 20261231, 20260402, 20260407, 20260430, 20260504, 20261224, 20261228, 20281227];
+    for date in open {
+        assert_eq!(dated(date, date), 0, "{date}");
+        assert_eq!(dated(20260616, date), 4, "{date}");
+    }
+    // no dates, and weekdays on either side of the years
+    for date in [20260230, 20260600, 20261301, 0, u32::MAX, 19991231, 23000102] {
+        assert_eq!(dated(20260615, date), 260, "{date}");
+        assert_eq!(dated(20260614, date), 260, "{date}");
+    }
+}
+
+#[test]
+fn no_fault_of_a_bulk_hides_another() {
+    let mut header = header("/D", "ZZZZLV22", 1, 1);
+    put(MARKS, vec![0])(&mut header);
+    put(VALUE_DATE, number(20260614, 4))(&mut header);
+    let mut call = call(&[(header, vec![])]);
+    call.register = register(&[entry("ZZZZLV22", "/D", 2)], 2);
+    assert_eq!(bulk_lines(&call), [(2, 511)]);
+}
+
 #[test]
 fn the_sender_needs_a_first_counting_row_of_kind_5() {
     let faults = |rows: &[Vec<u8>]| {

@@ -6,7 +6,7 @@ pub fn is_date(date: u32) -> bool {
     (2000..=2299).contains(&year) && (1..=12).contains(&month) && (1..=days(year, month)).contains(&day)
 }
 
-fn days(year: u32, month: u32) -> u32 {
+pub fn days(year: u32, month: u32) -> u32 {
     let leap = year % 4 == 0 && (year % 100 != 0 || year % 400 == 0);
     match month {
         2 if leap => 29,

@@ -7,6 +7,7 @@ mod calendar;
 mod index;
 mod indexed;
 mod judging;
+mod open;
 mod refusals;
 mod routing;
 mod rules;
@@ -15,10 +16,12 @@ pub use calendar::is_date;
 pub use index::start;
 pub use indexed::{build_index, judge_indexed, right_index};
 pub use judging::judge;
+pub use open::{is_open, next_open_day, open_day, open_days};
 pub use routing::lookup;
 pub use rules::{badly_formed, in_set};
 
 use crate::call::{Answer, Call, IndexedAnswer, Judge, Route, Trouble};
+use crate::days::{Calendar, Day};
 
 /// The reference as one who may be asked.
 pub struct Reference;
@@ -40,5 +43,15 @@ impl Judge for Reference {
 
     fn lookup(&mut self, date: u32, table: &[u8], bic: &[u8]) -> Result<Route, Trouble> {
         Ok(lookup(date, table, bic))
+    }
+}
+
+impl Calendar for Reference {
+    fn days(&mut self, dates: &[u32]) -> Result<[Vec<Day>; 2], Trouble> {
+        Ok([open_day, next_open_day].map(|question| dates.iter().copied().map(question).collect()))
+    }
+
+    fn counts(&mut self, pairs: &[[u32; 2]]) -> Result<Vec<Day>, Trouble> {
+        Ok(pairs.iter().map(|[from, to]| open_days(*from, *to)).collect())
     }
 }

@@ -1,6 +1,7 @@
 //! The faults of a bulk and of a message. Each list is in the order of the bits.
 
 use super::judging::{Register, BULK, MESSAGE};
+use super::open::is_open;
 use super::routing;
 use crate::records::{trimmed, Bic, Bulk, Header, Identifier, Message, Row};
 
@@ -42,6 +43,7 @@ pub fn bulk_faults(known: &Known, bulk: &Bulk) -> u16 {
         messages.is_empty(),
         header.number != messages.len() as u64,
         u128::from(header.sum) != sum,
+        !is_open(header.date),
     ])
 }
 
@@ -68,7 +70,8 @@ fn names_an_original(message: &Message) -> bool {
 
 /// The whole original amount may, and less of it where a charge may be taken off.
 fn may_go_back(message: &Message) -> bool {
-    message.amount == message.original || message.amount < message.original && &message.reason == ANSWERS_CANCELLATION
+    message.amount == message.original
+        || message.amount < message.original && &message.reason == ANSWERS_CANCELLATION
 }
 
 fn blank(field: &[u8]) -> bool {
