@@ -5,11 +5,13 @@
  *   call:    8 words of 4 bytes: the functions, one a byte, the first in the lowest; the date; six lengths; then the six
  *            buffers: sheet, table, register, positions, report, index. Functions: 1 judge; 2 lookup, with the BIC in
  *            place of the sheet; 3 read, with the text in place of the sheet and its space in place of the report;
- *            4 judge by the index; 5 build an index, its space filled with guard bytes first. What a function does not
- *            take may be empty. Each of several gets the buffers as they came
+ *            4 judge by the index; 5 build an index, its space filled with guard bytes first; 6 open_day and 7
+ *            next_open_day of each date in place of the sheet, 8 open_days of each two, all in words of 4 bytes, with two
+ *            words for each answer in place of the report. What a function does not take may be empty. Each of several
+ *            gets the buffers as they came
  *   answer:  for each function 6 words of 4 bytes: number, then for the judges the length in two halves (low first) and
  *            the slots read in two more or two 0, for the lookup found, row, reachable and a 0, for reading length and
- *            place in two halves each; last, 1 if no byte outside the lent buffers and none of the first two buffers
+ *            place in two halves each, for days only 0; last, 1 if no byte outside the lent buffers and none of the first two buffers
  *            changed; then register, positions, report and index as they now are
  * Reading is there only where this was built with WITH_READER.
  */
@@ -19,7 +21,7 @@
 
 #include "../include/tynderaxo.h"
 
-enum { JUDGE = 1, LOOKUP = 2, READ = 3, INDEXED = 4, BUILD = 5 };
+enum { JUDGE = 1, LOOKUP = 2, READ = 3, INDEXED = 4, BUILD = 5, OPEN_DAY = 6, NEXT_OPEN_DAY = 7, OPEN_DAYS = 8 };
 enum { BUFFERS = 6, READ_ONLY = 2, WORDS = 5, GUARD = 61, GUARD_BYTE = 0xA5 };
 
 /* All buffers of a call, each between guards; the odd guard width leaves them unaligned. */
@@ -81,6 +83,27 @@ static void read_text(const arena *a, uint32_t answer[WORDS]) {
 #endif
 }
 
+static uint32_t word(const uint8_t *p) { return p[0] | p[1] << 8 | p[2] << 16 | (uint32_t)p[3] << 24; }
+
+static void put_word(uint8_t *p, uint32_t number) {
+    for (int i = 0; i < 4; i++) p[i] = (uint8_t)(number >> 8 * i);
+}
+
+static void tell_days(const arena *a, uint32_t function) {
+    const uint8_t *dates = a->bytes + a->at[0];
+    uint8_t *answers = a->bytes + a->at[4];
+    size_t width = function == OPEN_DAYS ? 8 : 4, count = a->lengths[0] / width;
+    if (a->lengths[4] < 8 * count) fail("no space for days");
+    for (size_t i = 0; i < count; i++) {
+        uint32_t date = word(dates + width * i);
+        tynderaxo_day day = function == OPEN_DAY        ? tynderaxo_open_day(date)
+                            : function == NEXT_OPEN_DAY ? tynderaxo_next_open_day(date)
+                                                        : tynderaxo_open_days(date, word(dates + width * i + 4));
+        put_word(answers + 8 * i, day.number);
+        put_word(answers + 8 * i + 4, day.value);
+    }
+}
+
 static void call(const arena *a, uint32_t function, uint32_t date, uint32_t answer[WORDS]) {
     memset(answer, 0, WORDS * sizeof *answer);
     if (function == JUDGE) {
@@ -99,6 +122,8 @@ static void call(const arena *a, uint32_t function, uint32_t date, uint32_t answ
     } else if (function == BUILD) {
         memset(a->bytes + a->at[5], GUARD_BYTE, a->lengths[5]);
         answer[0] = tynderaxo_build_index(buffer(a, 2), a->lengths[2], buffer(a, 5), a->lengths[5]);
+    } else if (function >= OPEN_DAY && function <= OPEN_DAYS) {
+        tell_days(a, function);
     } else if (function == READ) {
         read_text(a, answer);
     } else if (function == LOOKUP) {

@@ -6,6 +6,7 @@ use std::path::{Path, PathBuf};
 use std::process::{Child, ChildStdin, ChildStdout, Command, Stdio};
 
 use crate::call::{Answer, Call, IndexedAnswer, Judge, Outcomes, Route, Trouble};
+use crate::days::{Calendar, Day};
 use crate::documents::checks::{Answer as Reading, TextReader};
 
 const JUDGE: u32 = 1;
@@ -13,6 +14,9 @@ const LOOKUP: u32 = 2;
 const READ: u32 = 3;
 const INDEXED: u32 = 4;
 const BUILD: u32 = 5;
+const OPEN_DAY: u32 = 6;
+const NEXT_OPEN_DAY: u32 = 7;
+const OPEN_DAYS: u32 = 8;
 
 /// What the server answers in words: the number, four more, and whether all else was left alone.
 const WORDS: usize = 6;
@@ -153,6 +157,35 @@ impl TextReader for Archive {
     fn read(&mut self, text: &[u8], space: &mut [u8]) -> Result<Reading, Trouble> {
         let [words] = self.ask([READ], 0, [text, &[]], [[&mut [], &mut [], space, &mut []]])?;
         Ok(Reading { number: words[0], length: halves(&words[1..]), at: halves(&words[3..]) })
+    }
+}
+
+/// What is answered to one question about days takes two words.
+const DAY: usize = 8;
+
+/// Dates as the server reads them.
+fn dates_for(dates: &[u32]) -> Vec<u8> {
+    dates.iter().flat_map(|date| date.to_le_bytes()).collect()
+}
+
+fn days_of(bytes: &[u8]) -> Vec<Day> {
+    let word = |bytes: &[u8]| u32::from_le_bytes(bytes.try_into().expect("four bytes"));
+    bytes.chunks_exact(DAY).map(|day| Day { number: word(&day[..4]), value: word(&day[4..]) }).collect()
+}
+
+impl Calendar for Archive {
+    fn days(&mut self, dates: &[u32]) -> Result<[Vec<Day>; 2], Trouble> {
+        let mut answers = [vec![0; DAY * dates.len()], vec![0; DAY * dates.len()]];
+        let buffers = answers.each_mut().map(|answer| -> Written { [&mut [], &mut [], answer, &mut []] });
+        self.ask([OPEN_DAY, NEXT_OPEN_DAY], 0, [&dates_for(dates), &[]], buffers)?;
+        Ok(answers.map(|answer| days_of(&answer)))
+    }
+
+    fn counts(&mut self, pairs: &[[u32; 2]]) -> Result<Vec<Day>, Trouble> {
+        let mut answers = vec![0; DAY * pairs.len()];
+        let buffers = [&mut [][..], &mut [], &mut answers, &mut []];
+        self.ask([OPEN_DAYS], 0, [&dates_for(pairs.as_flattened()), &[]], [buffers])?;
+        Ok(days_of(&answers))
     }
 }
 

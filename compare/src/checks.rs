@@ -7,6 +7,7 @@ use std::process::Stdio;
 use crate::archive::command;
 use crate::call::{read_positions, Answer, Call, IndexedAnswer, Judge, Outcomes, Trouble};
 use crate::cut::Run;
+use crate::days::{Calendar, Day};
 use crate::program::{outcome, printed, Input};
 use crate::records::number;
 use crate::reference::Reference;
@@ -109,6 +110,29 @@ pub fn same_run(judge: &mut impl Judge, run: &Run) -> Result<(), Trouble> {
 
 pub fn same_route(judge: &mut impl Judge, date: u32, table: &[u8], bic: &[u8]) -> Result<(), Trouble> {
     equal("the route", judge.lookup(date, table, bic)?, Reference.lookup(date, table, bic)?)
+}
+
+/// The first of several answers that differs, under its question as C asks it.
+fn equal_days(got: &[Day], wanted: &[Day], question: impl Fn(usize) -> String) -> Result<(), Trouble> {
+    match got.iter().zip(wanted).position(|(left, right)| left != right) {
+        None => Ok(()),
+        Some(place) => equal(&question(place), got[place], wanted[place]),
+    }
+}
+
+/// Of each date whether it is open, and the next open day.
+pub fn same_days(calendar: &mut impl Calendar, dates: &[u32]) -> Result<(), Trouble> {
+    let ([open, next], [our_open, our_next]) = (calendar.days(dates)?, Reference.days(dates)?);
+    equal_days(&open, &our_open, |place| format!("tynderaxo_open_day({})", dates[place]))?;
+    equal_days(&next, &our_next, |place| format!("tynderaxo_next_open_day({})", dates[place]))
+}
+
+/// Of each two dates how many open days lie between them.
+pub fn same_counts(calendar: &mut impl Calendar, pairs: &[[u32; 2]]) -> Result<(), Trouble> {
+    equal_days(&calendar.counts(pairs)?, &Reference.counts(pairs)?, |place| {
+        let [from, to] = pairs[place];
+        format!("tynderaxo_open_days({from}, {to})")
+    })
 }
 
 /// What a program prints for these bytes, against what the rules have it print.

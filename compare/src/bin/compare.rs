@@ -8,11 +8,14 @@ use std::time::{Duration, Instant, SystemTime, UNIX_EPOCH};
 
 use compare::archive::Archive;
 use compare::call::{Call, Judge, Trouble};
-use compare::checks::{both_outcomes, same_judgement, same_lines, same_route, same_run, shown, shown_run};
+use compare::checks::{
+    both_outcomes, same_counts, same_days, same_judgement, same_lines, same_route, same_run, shown, shown_run,
+};
 use compare::program::Input;
 use compare::random::Random;
 use compare::{cut, generate, shrink, text};
 use cut::ByIndex;
+use generate::days;
 use generate::limits::{self, LIMITS};
 use generate::routes::ROUTES;
 use generate::sweeps::{self, SWEEPS};
@@ -55,7 +58,7 @@ fn options() -> Option<Options> {
     Some(Options { cases, seed, server: server?, program, full, shrink })
 }
 
-/// Why a case failed, and the smallest case found that fails too.
+/// Why a case failed, and the smallest case found that fails too; none of a question about days, which says it all.
 struct Failure {
     why: String,
     case: String,
@@ -70,6 +73,7 @@ struct Tried {
     cuts: u64,
     runs: u64,
     routes: u64,
+    days: u64,
     programs: u64,
 }
 
@@ -157,6 +161,19 @@ impl Comparison {
         (0..4).try_for_each(|_| self.route(call.date, table, &generate::lookup_bic(random, table)))
     }
 
+    /// Every date and many pairs of dates, so many at a time.
+    fn days(&mut self, random: &mut Random) -> Result<(), Failure> {
+        const AT_ONCE: usize = 1 << 14;
+        let (dates, pairs): (Vec<u32>, _) = (days::dates().collect(), days::pairs(random));
+        self.tried.days = (2 * dates.len() + pairs.len()) as u64;
+        let archive = &mut self.archive;
+        dates
+            .chunks(AT_ONCE)
+            .try_for_each(|dates| same_days(archive, dates))
+            .and_then(|()| pairs.chunks(AT_ONCE).try_for_each(|pairs| same_counts(archive, pairs)))
+            .map_err(|why| Failure { why, case: String::new() })
+    }
+
     fn lines(&mut self, call: &Call, random: &mut Random) -> Result<(), Failure> {
         let Some(program) = &self.program else { return Ok(()) };
         self.tried.programs += 1;
@@ -198,6 +215,9 @@ fn fixed(options: &Options, comparison: &mut Comparison) -> Result<(), (String, 
         comparison.judgement(&sweeps::on(date)).map_err(name)?;
         comparison.route(date, &[0; 4], b"AAAALV22XXX").map_err(name)?;
     }
+    // the first of the numbers at the far end that the limits leave
+    let random = &mut Random::of(options.seed, u64::MAX - LIMITS.len() as u64);
+    comparison.days(random).map_err(|failure| ("open days".to_string(), failure))?;
     for (index, (name, call)) in LIMITS.iter().enumerate() {
         // numbers from the far end, which no generated case has
         let random = &mut Random::of(options.seed, u64::MAX - index as u64);
@@ -233,15 +253,19 @@ fn main() -> ExitCode {
     let start = Instant::now();
     let mut comparison = Comparison { archive, program, shrink: options.shrink, tried: Tried::default() };
     if let Err((place, Failure { why, case })) = all(&options, &mut comparison) {
-        println!("FAILED at {place}, seed {}\n{why}\nthe smallest case found:\n{case}", options.seed);
+        println!("FAILED at {place}, seed {}\n{why}", options.seed);
+        if !case.is_empty() {
+            println!("the smallest case found:\n{case}");
+        }
         return ExitCode::FAILURE;
     }
-    let Tried { answers, indexed, cuts, runs, routes, programs } = comparison.tried;
+    let Tried { answers, indexed, cuts, runs, routes, days, programs } = comparison.tried;
     let seconds = start.elapsed().as_secs_f64();
     let calls: u64 = answers.iter().sum();
     println!("{calls} calls, by number answered {answers:?}");
     println!("by the index, by number answered {indexed:?}");
     println!("{cuts} cut at every place, {runs} runs, {routes} lookups, {programs} inputs of the program");
+    println!("{days} questions about open days");
     println!("no difference found in {seconds:.1} s");
     ExitCode::SUCCESS
 }

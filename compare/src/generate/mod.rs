@@ -1,6 +1,7 @@
 //! Cases for the comparer: good ones, spoilt ones, and ones made to meet a certain refusal or just miss it.
 
 mod damage;
+pub mod days;
 mod fields;
 mod index;
 pub mod limits;
