@@ -215,6 +215,9 @@ fn fixed(options: &Options, comparison: &mut Comparison) -> Result<(), (String, 
         comparison.judgement(&sweeps::on(date)).map_err(name)?;
         comparison.route(date, &[0; 4], b"AAAALV22XXX").map_err(name)?;
     }
+    for (index, call) in sweeps::value_dates().enumerate() {
+        comparison.judgement(&call).map_err(|failure| (format!("value dates, file {index}"), failure))?;
+    }
     // the first of the numbers at the far end that the limits leave
     let random = &mut Random::of(options.seed, u64::MAX - LIMITS.len() as u64);
     comparison.days(random).map_err(|failure| ("open days".to_string(), failure))?;

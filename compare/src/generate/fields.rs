@@ -3,9 +3,16 @@
 use super::Maker;
 use crate::random::Random;
 use crate::records::{padded, Bic, Identifier, Sender};
-use crate::reference::is_date;
+use crate::reference::{is_date, next_open_day};
 
-const USUAL_DATES: [u32; 6] = [20260615, 20240229, 20000101, 22991231, 20000229, 20991231];
+/// Open days, among them the first and the last of the years and some beside closed ones.
+const USUAL_DATES: [u32; 10] =
+    [20260615, 20240229, 20000103, 22991229, 20000229, 20991231, 20260402, 20260407, 20241224, 20241227];
+/// Closed days: the first and the last of the years, a Saturday, a Sunday, and every holiday when it is no such day.
+const CLOSED_DATES: [u32; 14] = [
+    20000101, 22991231, 20260613, 20260614, 20260101, 20260403, 20260406, 20260501, 20261225, 20241226,
+    20380423, 20380426, 22850320, 22850323,
+];
 const ODD_DATES: [u32; 16] = [
     20230229,
     21000229,
@@ -53,13 +60,45 @@ const ODD_AMOUNTS: [u64; 10] = [
 pub const ANSWERS_CANCELLATION: &[u8; 4] = b"FOCR";
 
 impl Maker<'_> {
-    /// A calendar date, as a call mostly has it.
+    /// A calendar date, as a call mostly has it. Few are closed: on such a day every bulk falls that is dated so.
     pub fn date(random: &mut Random) -> u32 {
-        if random.one_in(3) {
-            let date = Maker::near_date(random);
-            return if is_date(date) { date } else { 20260615 };
+        match random.below(15) {
+            0 => random.pick(&CLOSED_DATES),
+            1 => Maker::any_date(random),
+            2..=5 => {
+                let next = next_open_day(Maker::any_date(random));
+                if next.number == 0 {
+                    next.value
+                } else {
+                    USUAL_DATES[0]
+                }
+            }
+            _ => random.pick(&USUAL_DATES),
         }
-        random.pick(&USUAL_DATES)
+    }
+
+    /// Any date, open or closed, mostly around the limits.
+    fn any_date(random: &mut Random) -> u32 {
+        let date = Maker::near_date(random);
+        if is_date(date) {
+            date
+        } else {
+            USUAL_DATES[0]
+        }
+    }
+
+    /// The call's date; or a number beside it, a date of another call, a closed day, or what is often no date at all.
+    pub fn value_date(&mut self) -> u32 {
+        if !self.spoils() {
+            return self.date;
+        }
+        match self.random.below(8) {
+            0 => self.other(u64::from(self.date)) as u32,
+            1 => Maker::date(self.random),
+            2 => self.random.pick(&CLOSED_DATES),
+            3 => Maker::near_date(self.random),
+            _ => self.date,
+        }
     }
 
     /// Any year, month and day around the limits; often no date at all.

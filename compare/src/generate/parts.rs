@@ -108,7 +108,7 @@ impl Maker<'_> {
             sender: self.sender(),
             number: self.stated(messages.len() as u64),
             sum: self.stated(sum),
-            date: if self.spoils() { self.stated(u64::from(self.date)) as u32 } else { self.date },
+            date: self.value_date(),
             marks: if self.spoils() { self.random.pick(&[0, 1, 2, 4, 5, 6, 7, 11, 131, 255]) } else { 3 },
         }
     }
@@ -119,12 +119,8 @@ impl Maker<'_> {
         let blank =
             Message { identifier, receiver, amount, original: 0, reason: padded(b""), name: padded(b"") };
         let reason = self.reason();
-        let returned = Message {
-            original: self.original(amount, &reason),
-            reason,
-            name: self.name(),
-            ..blank.clone()
-        };
+        let returned =
+            Message { original: self.original(amount, &reason), reason, name: self.name(), ..blank.clone() };
         if kind == 3 {
             return returned;
         }

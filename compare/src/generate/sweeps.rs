@@ -1,9 +1,10 @@
 //! Sweeps that leave nothing to chance: every date around the limits, every byte at every place of a field, every byte in which an
 //! entry may differ from a message's.
 
-use super::limits::{bulk, call, falling, identifier, message, register, rows, Limit, SENDER};
+use super::limits::{bulk, call, falling, identifier, message, register, rows, Limit, DATE, SENDER};
 use crate::call::Call;
 use crate::records::{padded, Bulk, Entry, Identifier, Message, Record, COUNT};
+use crate::reference::is_date;
 
 /// Every month and day, and some that are none, of the years that matter.
 pub fn dates() -> impl Iterator<Item = u32> {
@@ -14,9 +15,34 @@ pub fn dates() -> impl Iterator<Item = u32> {
     years.into_iter().flat_map(days)
 }
 
-/// An empty file on this date.
+/// A file on this date with bulks of these value dates, each of so many messages.
+fn dated(date: u32, value_dates: &[u32], messages: usize) -> Call {
+    let dated = |(index, date): (usize, &u32)| {
+        let messages = (0..messages).map(|at| message(index + at, b"BBBBLV22RIX", 100)).collect();
+        let mut bulk = bulk(index, messages);
+        bulk.header.date = *date;
+        bulk
+    };
+    let bulks: Vec<Bulk> = value_dates.iter().enumerate().map(dated).collect();
+    Call { date, ..call(&rows(2), register(0, bulks.len() * (1 + messages)), &bulks) }
+}
+
+/// A file on this date of a bulk that is dated so, and of two dated a day before and after it.
 pub fn on(date: u32) -> Call {
-    Call { date, ..call(&rows(2), register(0, 0), &[]) }
+    dated(date, &[date, date.wrapping_sub(1), date + 1], 1)
+}
+
+/// As value dates of empty bulks every day of the years, the numbers beside those that begin and end a month, and a weekday on either
+/// side of the years. The date of each file is its first day.
+pub fn value_dates() -> impl Iterator<Item = Call> {
+    const MOST_BULKS: usize = 999;
+    let near = |date: &u32| [date - 1, *date, date + 1].into_iter().any(is_date);
+    let all: Vec<u32> = (20000100..=22991232).filter(near).chain([19991231, 23000102]).collect();
+    let files: Vec<Vec<u32>> = all.chunks(MOST_BULKS).map(<[u32]>::to_vec).collect();
+    files.into_iter().map(|dates| {
+        let day = dates.iter().copied().find(|date| is_date(*date));
+        dated(day.unwrap_or(DATE), &dates, 0)
+    })
 }
 
 /// One field with each byte in turn at each of these places.
