@@ -1,11 +1,12 @@
--- The definitions tried on single numbers, by computation: which of them are dates, and how many days after 1 January 2000 some dates lie.
--- Of other numbers nothing is said here. Assumes nothing.
+-- The definitions tried on single numbers, by computation: which of them are dates, how many days after 1 January 2000 some dates lie, on
+-- which weekday, and which day follows. Of other numbers nothing is said here. Assumes nothing.
 use mathlib.Core.Path.{_≡_, refl}
 use mathlib.Core.Bool.{Bool, true, false}
 use mathlib.Core.List.{List, [], _∷_, map}
 use Prim.Native.Nat.{ℕ}
-use Rattle.calendar.specs.Date.{leap, daysIn, isDate, daysOfYears, daysOfMonths, dayNumber}
-use Rattle.calendar.proofs.Computing.{datesCompute}
+use Rattle.calendar.specs.Date.{isDate, dayNumber}
+use Rattle.calendar.specs.Days.{dayAfter, weekday}
+use Rattle.calendar.proofs.Computing.{datesCompute, daysCompute}
 
 pub dates : List (ℕ × Bool)
 dates =
@@ -44,5 +45,33 @@ numbers =
     ∷ []
 
 pub numbersRight : map (λ c. dayNumber (c .0)) numbers ≡ map (λ c. c .1) numbers
-unfolding numbers dayNumber daysOfYears daysOfMonths daysIn leap
+unfolding daysCompute numbers
 numbersRight = refl
+
+-- a Thursday, a Friday, a Sunday, a Monday, and the last date
+pub weekdays : List (ℕ × ℕ)
+weekdays =
+    (20240229, 4)
+    ∷ (20240329, 5)
+    ∷ (20260614, 0)
+    ∷ (20260615, 1)
+    ∷ (22991231, 0)
+    ∷ []
+
+pub weekdaysRight : map (λ c. weekday (dayNumber (c .0))) weekdays ≡ map (λ c. c .1) weekdays
+unfolding daysCompute weekdays
+weekdaysRight = refl
+
+-- within a month, over its end with a leap day and without, and over a year's
+pub after : List (ℕ × ℕ)
+after =
+    (20240227, 20240228)
+    ∷ (20240228, 20240229)
+    ∷ (20240229, 20240301)
+    ∷ (21000228, 21000301)
+    ∷ (20241231, 20250101)
+    ∷ []
+
+pub afterRight : map (λ c. dayAfter (c .0)) after ≡ map (λ c. c .1) after
+unfolding daysCompute after
+afterRight = refl

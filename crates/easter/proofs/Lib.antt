@@ -1,3 +1,4 @@
+pub mod Cases
 pub mod Computing
 pub mod EachYear
 pub mod Laws

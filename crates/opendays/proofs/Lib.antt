@@ -1,5 +1,7 @@
+pub mod Cases
 pub mod Computing
 pub mod Count
 pub mod Next
 pub mod Stretch
 pub mod Laws
+pub mod Meaning

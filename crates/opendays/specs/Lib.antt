@@ -1,3 +1,4 @@
 pub mod OpenDay
 pub mod Questions
 pub mod Counting
+pub mod Promise

@@ -18,7 +18,6 @@ use Rattle.promises.proofs.Told.{both, number, truth, bytes}
 use Rattle.wire.proofs as wire
 use Rattle.texts.proofs as texts
 use Rattle.writing.proofs as writing
-use Rattle.calendar.proofs as calendar
 use Rattle.masks.proofs as masks
 use Rattle.wording.proofs as wording
 use Rattle.codes.proofs as codes
@@ -65,17 +64,6 @@ module _ {M : Type 1} (𝓤 : URA M) (H : Heap 𝓤) (A : Atoms 𝓤) (mem : Mem
 
   pub writing·put-text : Determined 𝓤 H A mem run writing.put_text.ended writing.put_text.clauses
   writing·put-text κs a g r r' ws ws' h h' = (refl, λ i. (bytes 𝓤 _ (h .told) (h' .told) i, ws .1))
-
-  -- ---- calendar
-
-  pub calendar·leap : Determined 𝓤 H A mem run calendar.leap.ended calendar.leap.clauses
-  calendar·leap κs a g r r' ws ws' h h' = (truth 𝓤 _ (h .told) (h' .told), refl)
-
-  pub calendar·days-in : Determined 𝓤 H A mem run calendar.days_in.ended calendar.days_in.clauses
-  calendar·days-in κs a g r r' ws ws' h h' = (number 𝓤 _ (h .told) (h' .told), refl)
-
-  pub calendar·is-date : Determined 𝓤 H A mem run calendar.is_date.ended calendar.is_date.clauses
-  calendar·is-date κs a g r r' ws ws' h h' = (truth 𝓤 _ (h .told) (h' .told), refl)
 
   -- ---- masks
 

@@ -4,6 +4,7 @@ pub mod Coming
 pub mod Control
 pub mod Cutting
 pub mod DeterminedBytes
+pub mod DeterminedDays
 pub mod DeterminedFiles
 pub mod DeterminedIndex
 pub mod DeterminedJudge

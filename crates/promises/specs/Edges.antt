@@ -28,6 +28,7 @@ row bic = rowBytes bic 20000101 22991231 participant
 -- what varies from one case to the next
 pub record Case : Type 0 where
   pub date : ℕ
+  pub valueDate : ℕ
   pub kind : ℕ
   pub statedSum : ℕ
   pub identifier : String
@@ -41,7 +42,7 @@ pub record Case : Type 0 where
 abbrev pub bulkOf : Case → Bulk
 bulkOf c =
     record {
-      header = headerBytes (c .kind) "D1" "AAAALV22" 1 (c .statedSum) (c .date) 3;
+      header = headerBytes (c .kind) "D1" "AAAALV22" 1 (c .statedSum) (c .valueDate) 3;
       messages = messageBytes (c .identifier) "BBBBLV22XXX" (c .amount) (c .original) (c .reason) (c .name) ∷ [];
     }
 
@@ -81,27 +82,32 @@ edge c told expected = record { call = edgeCall c; told = told; expected = expec
 -- a payment on a date: the number of the refusal, 0 for none
 abbrev pub onDate : ℕ → ℕ → Edge
 onDate d =
-    edge (record { date = d; kind = paymentKind; statedSum = 1; identifier = "T1"; amount = 1; original = 0; reason = ""; name = ""; used = [] }) refusalOf
+    edge (record { date = d; valueDate = d; kind = paymentKind; statedSum = 1; identifier = "T1"; amount = 1; original = 0; reason = ""; name = ""; used = [] }) refusalOf
+
+-- a bulk of a value date, in a call on a date: its faults
+abbrev pub valued : ℕ → ℕ → ℕ → Edge
+valued v d =
+    edge (record { date = d; valueDate = v; kind = paymentKind; statedSum = 1; identifier = "T1"; amount = 1; original = 0; reason = ""; name = ""; used = [] }) bulkFaultsOf
 
 -- a payment of so many cents: the faults of its message
 abbrev pub paying : ℕ → ℕ → Edge
 paying a =
-    edge (record { date = 20260615; kind = paymentKind; statedSum = a; identifier = "T1"; amount = a; original = 0; reason = ""; name = ""; used = [] }) messageFaultsOf
+    edge (record { date = 20260615; valueDate = 20260615; kind = paymentKind; statedSum = a; identifier = "T1"; amount = a; original = 0; reason = ""; name = ""; used = [] }) messageFaultsOf
 
 -- a payment under an identifier: the faults of its message
 abbrev pub named : String → ℕ → Edge
 named s =
-    edge (record { date = 20260615; kind = paymentKind; statedSum = 1; identifier = s; amount = 1; original = 0; reason = ""; name = ""; used = [] }) messageFaultsOf
+    edge (record { date = 20260615; valueDate = 20260615; kind = paymentKind; statedSum = 1; identifier = s; amount = 1; original = 0; reason = ""; name = ""; used = [] }) messageFaultsOf
 
 -- a bulk that stands in the register, with a stated sum of two cents where one is paid: its faults
 abbrev pub repeatWithWrongSum : ℕ → Edge
 repeatWithWrongSum =
-    edge (record { date = 20260615; kind = paymentKind; statedSum = 2; identifier = "T1"; amount = 1; original = 0; reason = ""; name = ""; used = key (text "AAAALV22") (padded identifierWidth "D1") bulkTag ∷ [] }) bulkFaultsOf
+    edge (record { date = 20260615; valueDate = 20260615; kind = paymentKind; statedSum = 2; identifier = "T1"; amount = 1; original = 0; reason = ""; name = ""; used = key (text "AAAALV22") (padded identifierWidth "D1") bulkTag ∷ [] }) bulkFaultsOf
 
 -- a message of a kind, over so many cents, that tells of an original over so many and gives a reason: its faults
 abbrev pub telling : ℕ → ℕ → ℕ → String → ℕ → Edge
 telling k a o reason =
-    edge (record { date = 20260615; kind = k; statedSum = a; identifier = "T1"; amount = a; original = o; reason = reason; name = "pacs.008.001.08"; used = [] }) messageFaultsOf
+    edge (record { date = 20260615; valueDate = 20260615; kind = k; statedSum = a; identifier = "T1"; amount = a; original = o; reason = reason; name = "pacs.008.001.08"; used = [] }) messageFaultsOf
 
 -- a return of so many cents, of an original of so many, for a reason
 abbrev pub returned : ℕ → ℕ → String → ℕ → Edge
@@ -112,6 +118,16 @@ edges =
     onDate 20240229 0
     ∷ onDate 20230229 1
     ∷ onDate 21000229 1
+    ∷ valued 20240329 20240329 256
+    ∷ valued 20240401 20240401 256
+    ∷ valued 20240402 20240402 0
+    ∷ valued 20240501 20240501 256
+    ∷ valued 20241226 20241226 256
+    ∷ valued 20260403 20260403 256
+    ∷ valued 20260614 20260614 256
+    ∷ valued 20260614 20260615 260
+    ∷ valued 20260616 20260615 4
+    ∷ valued 20230229 20260615 260
     ∷ paying 0 16
     ∷ paying 99999999999 0
     ∷ paying 100000000000 16
