@@ -1,9 +1,9 @@
-// Easter Sunday, Good Friday and Easter Monday of the years 2000 to 2299. Proved: each is the date that the rule in specs/Easter.antt
-// gives. That this is the rule of the calendar is for a reader to see there, and in proofs/Cases.antt.
+// Easter of the years 2000 to 2299. Proved: it is the day that the rule in specs/Easter.antt gives. That this is the rule of the calendar
+// is for a reader to see there, and in proofs/Cases.antt.
 ghost use mathlib.Core.Path.{_≡_};
 ghost use Prim.Native.Nat.{_≤_};
 ghost use Rattle.calendar.specs.Date.{firstYear, lastYear};
-ghost use Rattle.easter.specs.Easter.{marchDate, easterDay, easterSunday, goodFriday, easterMonday};
+ghost use Rattle.easter.specs.Easter.{marchDate, easterDay, easterSunday};
 
 mod table;
 
@@ -11,15 +11,15 @@ mod table;
 const FIRST_YEAR: u32 = 2000;
 
 // Easter Sunday of the year.
-pub fn easter_sunday(y: u32) -> u32
+fn easter_sunday(y: u32) -> u32
     requires { ⌜ (firstYear ≤ y) × (y ≤ lastYear) ⌝ }
     ensures { λ r. ⌜ r ≡ easterSunday y ⌝ }
 {
     table::SUNDAYS[(y - FIRST_YEAR) as usize]
 }
 
-// The same as a day of March.
-fn easter_day(y: u32) -> u32
+// The same as a day counted from 1 March on.
+pub fn easter_day(y: u32) -> u32
     requires { ⌜ (firstYear ≤ y) × (y ≤ lastYear) ⌝ }
     ensures { λ r. ⌜ r ≡ easterDay y ⌝ }
 {
@@ -31,8 +31,8 @@ fn easter_day(y: u32) -> u32
     }
 }
 
-// The date of a day counted from 1 March on.
-fn march_date(y: u32, n: u32) -> u32
+// The date of such a day, so of Good Friday and Easter Monday too.
+pub fn march_date(y: u32, n: u32) -> u32
     requires { ⌜ (y ≤ lastYear) × (n ≤ 61) ⌝ }
     ensures { λ r. ⌜ r ≡ marchDate y n ⌝ }
 {
@@ -41,20 +41,4 @@ fn march_date(y: u32, n: u32) -> u32
     } else {
         calendar::date_of(y, 4, n - 31)
     }
-}
-
-// The Friday before.
-pub fn good_friday(y: u32) -> u32
-    requires { ⌜ (firstYear ≤ y) × (y ≤ lastYear) ⌝ }
-    ensures { λ r. ⌜ r ≡ goodFriday y ⌝ }
-{
-    march_date(y, easter_day(y) - 2)
-}
-
-// The Monday after.
-pub fn easter_monday(y: u32) -> u32
-    requires { ⌜ (firstYear ≤ y) × (y ≤ lastYear) ⌝ }
-    ensures { λ r. ⌜ r ≡ easterMonday y ⌝ }
-{
-    march_date(y, easter_day(y) + 1)
 }

@@ -33,10 +33,11 @@ fn holidays(y: u32) -> [u32; 6]
     requires { ⌜ (firstYear ≤ y) × (y ≤ lastYear) ⌝ }
     ensures { λ r. ⌜ r ≡ holidays y ⌝ }
 {
+    let sunday = easter::easter_day(y);
     [
         calendar::date_of(y, 1, 1),
-        easter::good_friday(y),
-        easter::easter_monday(y),
+        easter::march_date(y, sunday - 2),
+        easter::march_date(y, sunday + 1),
         calendar::date_of(y, 5, 1),
         calendar::date_of(y, 12, 25),
         calendar::date_of(y, 12, 26),

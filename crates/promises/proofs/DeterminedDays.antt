@@ -48,14 +48,11 @@ module _ {M : Type 1} (𝓤 : URA M) (H : Heap 𝓤) (A : Atoms 𝓤) (mem : Mem
 
   -- ---- easter
 
-  pub easter·easter-sunday : Determined 𝓤 H A mem run easter.easter_sunday.ended easter.easter_sunday.clauses
-  easter·easter-sunday κs a g r r' ws ws' h h' = (number 𝓤 _ (h .told) (h' .told), refl)
+  pub easter·easter-day : Determined 𝓤 H A mem run easter.easter_day.ended easter.easter_day.clauses
+  easter·easter-day κs a g r r' ws ws' h h' = (number 𝓤 _ (h .told) (h' .told), refl)
 
-  pub easter·good-friday : Determined 𝓤 H A mem run easter.good_friday.ended easter.good_friday.clauses
-  easter·good-friday κs a g r r' ws ws' h h' = (number 𝓤 _ (h .told) (h' .told), refl)
-
-  pub easter·easter-monday : Determined 𝓤 H A mem run easter.easter_monday.ended easter.easter_monday.clauses
-  easter·easter-monday κs a g r r' ws ws' h h' = (number 𝓤 _ (h .told) (h' .told), refl)
+  pub easter·march-date : Determined 𝓤 H A mem run easter.march_date.ended easter.march_date.clauses
+  easter·march-date κs a g r r' ws ws' h h' = (number 𝓤 _ (h .told) (h' .told), refl)
 
   -- ---- opendays
 
