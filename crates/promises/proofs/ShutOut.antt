@@ -20,7 +20,7 @@ use Rattle.sheet.specs.Sheet.{identifierWidth, Bulk, paymentKind, returnKind}
 use Rattle.sheet.specs.Written.{headerBytes, messageBytes, paymentBytes, sheetBytes}
 use Rattle.rules.specs.declared.Terms.{Terms}
 use Rattle.rules.specs.Terms.{dated}
-use Rattle.faults.specs.Bits.{sumWrongBit, returnedAmountWrongBit}
+use Rattle.faults.specs.Bits.{sumWrongBit, dateClosedBit, returnedAmountWrongBit}
 use Rattle.report.specs.Line.{bulkLineWidth, reportLength}
 use Rattle.messages.specs.Messages.{State}
 use Rattle.refusing.specs.Refusals.{Call}
@@ -76,6 +76,10 @@ partial = sheetBytes (bulk "D1" 2 2 (message "T1" ∷ message "T1" ∷ []) ∷ [
 -- two bulks, the second of which falls
 abbrev two : List ℕ
 two = sheetBytes (bulk "D1" 1 1 (message "T1" ∷ []) ∷ bulk "D2" 1 2 (message "T2" ∷ []) ∷ [])
+
+-- one bulk of another value date
+abbrev valued : ℕ → List ℕ
+valued date = sheetBytes (record { header = headerBytes paymentKind "D1" "AAAALV22" 1 1 date 3; messages = message "T1" ∷ [] } ∷ [])
 
 -- one bulk of a return of so many cents, of an original of so many, for a reason
 abbrev returned : ℕ → ℕ → String → List ℕ
@@ -169,6 +173,9 @@ shut-out =
       copiesTheFirstLine = λ s. zero-is-one (sym (s (callOn two) (in-bytes two refl) refl .bulks .1 .0 .acceptedNumber));
       makesUpTheNumber = λ s. zero-is-one (ap (λ (n : ℕ). 2 - n) (s (callOn partial) (in-bytes partial refl) refl .bulks .0 .acceptedNumber));
       hidesBesideARepeat = λ s. false≢true (s repeated repeated-in-bytes refl .bulks .0 .faults sumWrongBit);
+      closedTodayOnly = λ s. false≢true (s (callOn (valued 20260614)) (in-bytes (valued 20260614) refl) refl .bulks .0 .faults dateClosedBit);
+      closedByTheCall = λ s. false≢true (s (callOn (valued 20260614)) (in-bytes (valued 20260614) refl) refl .bulks .0 .faults dateClosedBit);
+      openOnEasterMonday = λ s. false≢true (s (callOn (valued 20260406)) (in-bytes (valued 20260406) refl) refl .bulks .0 .faults dateClosedBit);
       wholeIsMore = λ s.
           false≢true (sym (s (callOn (returned 2 2 "FOCR")) (in-bytes (returned 2 2 "FOCR") refl) refl .bulks .0 .messages .0 .faults returnedAmountWrongBit));
       noChargeAllowed = λ s.

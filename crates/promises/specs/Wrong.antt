@@ -8,12 +8,16 @@ use lib.Seq.{sets}
 use lib.Dec.{eqb, leb, ltb}
 use Rattle.wire.specs.Field.{part, bytesOf}
 use Rattle.masks.specs.Mask.{shown}
-use Rattle.sheet.specs.Sheet.{Bulk, bulksOf, bulkCount, kindOf, senderOf, identifierOf, statedSumOf, amountOf, originalOf, reasonOf}
+use Rattle.sheet.specs.Sheet.{Bulk, bulksOf, bulkCount, kindOf, senderOf, identifierOf, statedSumOf, valueDateOf, amountOf, originalOf, reasonOf}
 use Rattle.register.specs.Register.{key, messageTag, usedWidth, used, entryPlace, add}
 use Rattle.positions.specs.Positions.{pays}
 use Rattle.wording.specs.Wording.{answersCancellation}
+use Rattle.calendar.specs.Date.{year}
+use Rattle.easter.specs.Easter.{easterMonday}
+use Rattle.rules.specs.declared.Terms.{Terms}
+use Rattle.rules.specs.OfBulk.{dateWrong, dateClosed}
 use Rattle.rules.specs.OfMessage.{isReturn}
-use Rattle.faults.specs.Bits.{bulkRepeatedBit, returnedAmountWrongBit}
+use Rattle.faults.specs.Bits.{bulkRepeatedBit, dateClosedBit, returnedAmountWrongBit}
 use Rattle.faults.specs.Faults.{senderRow, receiverRow}
 use Rattle.report.specs.Line.{faultsPlace, faultsWidth, acceptedNumberPlace, numberWidth, bulkLineWidth, outcomeIn, faultsIn, countWidth, firstLine, sectionsPlace, linesAt, afterLines}
 use Rattle.messages.specs.Messages.{messageFell}
@@ -85,6 +89,27 @@ hidesBesideARepeat call =
     cond (shown (faultsIn (bulkLineFrom (left .report) firstLine)) bulkRepeatedBit)
     (withReport left (sets (left .report) (firstLine + faultsPlace) (bytesOf faultsWidth (2 ^ bulkRepeatedBit))))
     left) call
+
+-- the first bulk shows whether its value date is closed by another rule, of the call's terms and that date
+abbrev pub judgesDatesBy : (Terms → ℕ → Bool) → Judge
+judgesDatesBy rule call =
+    whereJudged (λ left.
+    withReport left (sets (left .report) (firstLine + faultsPlace)
+    (bytesOf faultsWidth
+    (faultsIn (bulkLineFrom (left .report) firstLine) % 2 ^ dateClosedBit
+    + cond (rule (call .terms) (valueDateOf (firstBulk call .header))) (2 ^ dateClosedBit) 0)))) call
+
+-- a closed day counts only where it is the call's date
+abbrev pub closedTodayOnly : Terms → ℕ → Bool
+closedTodayOnly terms date = dateClosed date && not (dateWrong terms date)
+
+-- it is the call's date that counts
+abbrev pub closedByTheCall : Terms → ℕ → Bool
+closedByTheCall terms date = dateClosed (terms .date)
+
+-- Easter Monday is open
+abbrev pub openOnEasterMonday : Terms → ℕ → Bool
+openOnEasterMonday terms date = dateClosed date && not (eqb date (easterMonday (year date)))
 
 -- the first message shows whether its returned amount is wrong by another rule, of kind, amount, original amount and reason
 abbrev pub judgesReturnsBy : (ℕ → ℕ → ℕ → List ℕ → Bool) → Judge
@@ -198,6 +223,9 @@ pub record ShutOut : Type 0 where
   pub copiesTheFirstLine : EveryLineTells copiesTheFirstLine → ⊥
   pub makesUpTheNumber : EveryLineTells makesUpTheNumber → ⊥
   pub hidesBesideARepeat : EveryLineTells hidesBesideARepeat → ⊥
+  pub closedTodayOnly : EveryLineTells (judgesDatesBy closedTodayOnly) → ⊥
+  pub closedByTheCall : EveryLineTells (judgesDatesBy closedByTheCall) → ⊥
+  pub openOnEasterMonday : EveryLineTells (judgesDatesBy openOnEasterMonday) → ⊥
   pub wholeIsMore : EveryLineTells (judgesReturnsBy wholeIsMore) → ⊥
   pub noChargeAllowed : EveryLineTells (judgesReturnsBy noChargeAllowed) → ⊥
   pub anyReasonAllows : EveryLineTells (judgesReturnsBy anyReasonAllows) → ⊥
