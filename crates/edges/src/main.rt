@@ -1,6 +1,7 @@
-// Runs the values at the edges of the rules through the proved judge, without an index and by one, and the proved reader, and prints a line
-// for each. The cases are the lines of `stdin`, which say what they do at their start; `stdout` was worked out by hand from the rules.
-// Proved is that the program is safe and ends; what it prints is compared.
+// Runs the values at the edges of the rules through the proved judge, without an index and by one, the calendar of open days and the proved
+// reader, and prints a line for each. The cases are the lines of `stdin`, which say what they do at their start; `stdout` was worked out by
+// hand from the rules, and what it says of open days by another program. Proved is that this one is safe and ends; what it prints is compared.
+mod days;
 mod documents;
 mod files;
 mod indexed;
@@ -106,6 +107,7 @@ fn judge_all(
         change(line, model, sheet);
         step(line, model, sheet, register);
         indexed::step(line, sheet, register, index);
+        days::step(line);
         at += line.len() + 1;
     }
 }

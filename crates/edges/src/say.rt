@@ -51,6 +51,18 @@ pub(crate) fn refusal(number_of_it: u32) {
     text(b"\n");
 }
 
+pub(crate) fn value(v: u32) {
+    last(v as u64);
+}
+
+pub(crate) fn open(is: bool) {
+    if is {
+        text(b"open\n");
+    } else {
+        text(b"closed\n");
+    }
+}
+
 fn bit(faults: u16, k: u16)
     requires { ⌜ k < 16 ⌝ }
 {
