@@ -7,9 +7,10 @@ use native.Mathlib.Nat.{suc-mod, mod-eq-of-lt, mod-lt, mod-self, div-eq-of-lt, d
 use native.Mathlib.Decide.{decLt}
 use native.Mathlib.Omega.{arith}
 use borrow.Author.Tests.{eqb-true, eqb-false, eq-eqb, ne-eqb}
-use lib.Dec.{eqb, leb, ltb, lit≤}
+use lib.Dec.{ltb, lit≤}
 use lib.ListN.{getD}
-use Rattle.calendar.specs.Date.{year, month, day, leap, daysIn, daysInYear, firstYear, lastYear, isDate, divisible, daysOfYears, daysOfMonths, dayNumber}
+use Rattle.calendar.specs.Date.{leap, daysIn, daysInYear, firstYear, lastYear, isDate, divisible, daysOfYears, daysOfMonths, dayNumber}
+use Rattle.calendar.specs.Days.{allDays}
 use Rattle.calendar.proofs.Facts.{facts}
 use Rattle.calendar.proofs.Agree.{agree}
 use Rattle.calendar.proofs.Order.{yearsGrow, monthsGrow, wholeYear, laterYear}
@@ -113,7 +114,7 @@ months-plain y m t h e left = rw (← months-reckoned y m h, ← e, left) (omega
 
 -- ---- what they come to
 
-pub years-small : (n : ℕ) → n ≤ 300 → daysOfYears n ≤ 109573
+pub years-small : (n : ℕ) → n ≤ 300 → daysOfYears n ≤ allDays
 unfolding daysOfYears leap
 years-small n h = le-trans (yearsGrow n 300 h) (lit≤ tt)
 
@@ -124,6 +125,6 @@ months-small y m h = le-trans (monthsGrow y m 13 h) (le-trans (le-of-eq (wholeYe
     go true = lit≤ tt
     go false = lit≤ tt
 
-pub number-small : (d : ℕ) → isDate d ≡ true → dayNumber d < 109573
+pub number-small : (d : ℕ) → isDate d ≡ true → dayNumber d < allDays
 unfolding daysOfYears leap
 number-small d h = laterYear d (suc lastYear) (facts d h) (omega (arith, facts d h .toLastYear))

@@ -1,14 +1,13 @@
 -- Days one after the other. Proved of every date: the day after it is later, is a date unless the calendar ends, has no date before it,
 -- and has the next day number; so the weekday moves by one. Nothing is said here of the code. Assumes nothing.
-use mathlib.Core.Path.{_≡_, refl, sym, ap, _∙_}
+use mathlib.Core.Path.{_≡_, refl, ap, _∙_}
 use mathlib.Core.Bool.{Bool, true, false, cond, _&&_, and-eq-true-iff}
-use Prim.Native.Nat.{ℕ, suc, _+_, _*_, _-_, _/_, _%_, _≤_, _<_}
-use native.Mathlib.Nat.{add-mod, mod-add-mod}
+use Prim.Native.Nat.{ℕ, suc, _+_, _-_, _%_, _≤_, _<_}
 use native.Mathlib.Decide.{decLt}
 use native.Mathlib.Omega.{arith}
 use borrow.Author.Tests.{leb-true, le-leb, lt-ltb, le-ltb}
-use lib.Dec.{leb, ltb}
-use Rattle.calendar.specs.Date.{year, month, day, leap, daysIn, daysInYear, firstYear, lastYear, isDate, daysOfYears, daysOfMonths, dayNumber}
+use lib.Dec.{leb}
+use Rattle.calendar.specs.Date.{year, month, day, leap, daysIn, firstYear, lastYear, isDate, daysOfYears, daysOfMonths, dayNumber}
 use Rattle.calendar.specs.Days.{dateOf, lastDate, dayAfter, weekday}
 use Rattle.calendar.proofs.Agree.{agree}
 use Rattle.calendar.proofs.Facts.{DateFacts, facts}

@@ -1,14 +1,23 @@
 -- Days one after the other: the day after a date, and the day of the week. Definitions only, total on every number.
-use Prim.Native.Nat.{ℕ, _+_, _*_, _%_}
+use Prim.Native.Nat.{ℕ, _+_, _*_, _%_, _≤_}
 use mathlib.Core.Bool.{cond}
 use lib.Dec.{ltb}
-use Rattle.calendar.specs.Date.{year, month, day, daysIn, lastYear}
+use Rattle.calendar.specs.Date.{year, month, day, daysIn, firstYear, lastYear}
 
 abbrev pub dateOf : ℕ → ℕ → ℕ → ℕ
 dateOf y m d = y * 10000 + m * 100 + d
 
+-- a year of the calendar
+pub record YearOf (y : ℕ) : Type 0 where
+  pub notBefore : firstYear ≤ y
+  pub notAfter : y ≤ lastYear
+
 abbrev pub lastDate : ℕ
 lastDate = dateOf lastYear 12 31
+
+-- the days of all its years
+abbrev pub allDays : ℕ
+allDays = 109573
 
 -- in the same month, else the first of the next, else the first of the next year
 unfoldable pub dayAfter : ℕ → ℕ

@@ -11,6 +11,11 @@ const FIRST_YEAR: u32 = 2000;
 
 const LAST_YEAR: u32 = 2299;
 
+// The ends of the week, which is counted from Sunday on; the first day of FIRST_YEAR was a Saturday.
+pub const SUNDAY: u32 = 0;
+
+pub const SATURDAY: u32 = 6;
+
 // The years before FIRST_YEAR that are leap years by the same rule.
 const LEAPS_BEFORE: u32 = 484;
 
@@ -84,7 +89,7 @@ pub fn weekday(d: u32) -> u32
     requires { ⌜ isDate d ≡ true ⌝ }
     ensures { λ r. ⌜ r ≡ weekday (dayNumber d) ⌝ }
 {
-    (day_number(d) + 6) % 7
+    (day_number(d) + SATURDAY) % 7
 }
 
 // The number that is written for a day of a month of a year.

@@ -1,14 +1,14 @@
 -- What follows from the rule. Proved of each year: the full moon lies from 21 March to 18 April and Easter Sunday from 22 March to
 -- 25 April. Of the years of the calendar: it is a Sunday, Good Friday the Friday two days before it and Easter Monday the day after, and
 -- the three are dates of the year. Assumes nothing.
-use mathlib.Core.Path.{_≡_, refl, sym, ap, _∙_}
+use mathlib.Core.Path.{_≡_, refl, ap, _∙_}
 use mathlib.Core.Bool.{Bool, true, false, cond, _&&_, _||_}
-use Prim.Native.Nat.{ℕ, suc, _+_, _*_, _-_, _/_, _%_, _≤_, _<_}
+use Prim.Native.Nat.{ℕ, _+_, _-_, _≤_, _<_}
 use native.Mathlib.Nat.{mod-lt}
 use native.Mathlib.Decide.{decLt}
 use native.Mathlib.Omega.{arith}
 use borrow.Author.Tests.{eqb-true, eqb-false, le-leb, lt-leb, lt-ltb, le-ltb}
-use lib.Dec.{leb, ltb, eqb}
+use lib.Dec.{ltb, eqb}
 use Rattle.calendar.specs.Date.{year, month, day, daysIn, firstYear, lastYear, isDate, daysOfYears, daysOfMonths, dayNumber}
 use Rattle.calendar.specs.Days.{dateOf, weekday, sunday}
 use Rattle.calendar.proofs.Days.{date-of, number-of}

@@ -2,7 +2,7 @@
 -- The steps and their numbers are those of the reform of 1582. Definitions only; of the years 2000 to 2299 the crate is about, no
 -- difference goes below 0.
 use Prim.Native.Nat.{ℕ, _+_, _*_, _-_, _/_, _%_}
-use mathlib.Core.Bool.{Bool, cond, _&&_, _||_}
+use mathlib.Core.Bool.{cond, _&&_, _||_}
 use lib.Dec.{leb, ltb, eqb}
 use Rattle.calendar.specs.Date.{dayNumber}
 use Rattle.calendar.specs.Days.{dateOf, weekday}

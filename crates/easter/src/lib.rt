@@ -2,7 +2,8 @@
 // is for a reader to see there, and in proofs/Cases.antt.
 ghost use mathlib.Core.Path.{_≡_};
 ghost use Prim.Native.Nat.{_≤_};
-ghost use Rattle.calendar.specs.Date.{firstYear, lastYear};
+ghost use Rattle.calendar.specs.Date.{lastYear};
+ghost use Rattle.calendar.specs.Days.{YearOf};
 ghost use Rattle.easter.specs.Easter.{marchDate, easterDay, easterSunday};
 
 mod table;
@@ -12,7 +13,7 @@ const FIRST_YEAR: u32 = 2000;
 
 // Easter Sunday of the year.
 fn easter_sunday(y: u32) -> u32
-    requires { ⌜ (firstYear ≤ y) × (y ≤ lastYear) ⌝ }
+    requires { ⌜ YearOf y ⌝ }
     ensures { λ r. ⌜ r ≡ easterSunday y ⌝ }
 {
     table::SUNDAYS[(y - FIRST_YEAR) as usize]
@@ -20,7 +21,7 @@ fn easter_sunday(y: u32) -> u32
 
 // The same as a day counted from 1 March on.
 pub fn easter_day(y: u32) -> u32
-    requires { ⌜ (firstYear ≤ y) × (y ≤ lastYear) ⌝ }
+    requires { ⌜ YearOf y ⌝ }
     ensures { λ r. ⌜ r ≡ easterDay y ⌝ }
 {
     let sunday = easter_sunday(y);

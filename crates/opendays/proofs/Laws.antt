@@ -1,22 +1,20 @@
 -- What the functions need besides the laws of counting and of the next open day: six tests and six numbers in a row, and the answers by
 -- the ways that lead to them. Assumes nothing.
-use mathlib.Core.Path.{_≡_, refl, sym}
-use mathlib.Core.Bool.{Bool, true, false, cond, not, _&&_, _||_}
+use mathlib.Core.Path.{_≡_, refl}
+use mathlib.Core.Bool.{Bool, true, false, not, _&&_, _||_}
 use mathlib.Core.List.{List}
 use mathlib.Core.Option.{none, some}
 use Prim.Native.Nat.{ℕ, suc, _+_, _-_, _≤_, _<_}
 use native.Mathlib.Nat.{add-sub-of-le}
 use native.Mathlib.Omega.{arith}
-use lib.Dec.{eqb, leb, ltb}
-use lib.ListN.{getD, length}
-use Rattle.wire.specs.Field.{bit}
+use lib.Dec.{eqb}
+use lib.ListN.{getD}
 use Rattle.calendar.specs.Date.{year, isDate}
 use Rattle.calendar.specs.Days.{dateOf}
 use Rattle.easter.specs.Easter.{goodFriday, easterMonday}
-use Rattle.opendays.specs.OpenDay.{weekend, holidays, holiday, among, openDay}
+use Rattle.opendays.specs.OpenDay.{weekend, holidays, holiday, openDay}
 use Rattle.opendays.specs.Questions.{openFrom, openDays, nextOpenDay, openDayAnswer, nextOpenDayAnswer, openDaysAnswer}
 use Rattle.opendays.specs.Counting.{total, over}
-use Rattle.opendays.specs.declared.Answer.{Answer}
 use Rattle.opendays.specs.declared.Answer.the-variants.{NoDate, NoneLater, Told}
 
 -- ---- six in a row

@@ -1,18 +1,17 @@
 -- What the answers mean. Proved of every number: the next open day is the first after it, and where none is told there is none; the number
 -- of open days over two stretches adds up; and the first open day after a date is one further by that number. Assumes nothing.
 use mathlib.Core.Path.{_≡_, refl, sym, ap, _∙_}
-use mathlib.Core.Bool.{Bool, true, false, _&&_, and-eq-true-iff}
+use mathlib.Core.Bool.{Bool, true, false, and-eq-true-iff}
 use mathlib.Core.Option.{none, some}
-use Prim.Native.Nat.{ℕ, suc, _+_, _-_, _≤_, _<_}
-use native.Mathlib.Nat.{add-zero, le-of-lt, le-trans}
-use native.Mathlib.Decide.{decLt}
+use Prim.Native.Nat.{ℕ, suc, _+_, _-_, _≤_}
+use native.Mathlib.Nat.{add-zero}
 use native.Mathlib.Omega.{arith}
 use Rattle.wire.specs.Field.{bit}
 use Rattle.wire.proofs.Scans.{first-found, first-before, first-nowhere}
 use Rattle.calendar.specs.Date.{isDate}
 use Rattle.calendar.specs.Days.{lastDate}
 use Rattle.calendar.proofs.Days.{to-last}
-use Rattle.opendays.specs.OpenDay.{openDay, weekend, holiday}
+use Rattle.opendays.specs.OpenDay.{openDay}
 use Rattle.opendays.specs.Questions.{openDays, nextOpenDay}
 use Rattle.opendays.specs.Promise.{FirstAfter, NoneAfter}
 use Rattle.opendays.proofs.Count.{countOf, count-over, count-none}

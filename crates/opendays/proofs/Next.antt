@@ -1,18 +1,18 @@
 -- The first open day after a date, one date after the other. Proved: the search that goes from date to date finds what the search over all
 -- numbers finds. Assumes nothing.
 use mathlib.Core.Path.{_≡_, refl, sym, ap, _∙_}
-use mathlib.Core.Bool.{Bool, true, false, not, _&&_}
+use mathlib.Core.Bool.{Bool, true, false}
 use mathlib.Core.Option.{Option, none, some}
 use Prim.Native.Nat.{ℕ, zero, suc, _+_, _-_, _≤_, _<_}
 use native.Mathlib.Nat.{add-zero}
 use native.Mathlib.Numerals.{add-one}
 use native.Mathlib.Omega.{arith}
 use Rattle.wire.specs.Places.{firstFrom}
-use Rattle.wire.proofs.Scans.{first-here, first-more, first-ends}
+use Rattle.wire.proofs.Scans.{first-here, first-more}
 use Rattle.calendar.specs.Date.{isDate}
 use Rattle.calendar.specs.Days.{lastDate, dayAfter}
 use Rattle.calendar.proofs.Days.{after-later, after-next, after-date, to-last}
-use Rattle.opendays.specs.OpenDay.{weekend, holiday, openDay}
+use Rattle.opendays.specs.OpenDay.{openDay}
 use Rattle.opendays.specs.Questions.{nextOpenDay}
 
 -- what is left of the search at the number i

@@ -2,25 +2,25 @@
 -- difference of whole weeks; the holidays among them are those of each year; and what is left is the length of the list. Assumes nothing.
 use mathlib.Core.Path.{_≡_, refl, sym, ap, _∙_}
 use mathlib.Core.Logic.{⊎-elim}
-use mathlib.Core.Bool.{Bool, true, false, cond, not, _&&_, _||_, and-eq-true-iff}
-use mathlib.Core.List.{List, [], _∷_}
-use Prim.Native.Nat.{ℕ, zero, suc, _+_, _*_, _-_, _/_, _%_, _≤_, _<_}
+use mathlib.Core.Bool.{Bool, true, false, cond, not, _&&_, _||_}
+use mathlib.Core.List.{_∷_}
+use Prim.Native.Nat.{ℕ, zero, suc, _+_, _*_, _-_, _%_, _≤_, _<_}
 use native.Mathlib.Nat.{add-zero, zero-add, eq-or-lt-of-le, le-of-lt, le-refl}
 use native.Mathlib.Decide.{decLt}
 use native.Mathlib.Omega.{arith}
-use borrow.Author.Tests.{eq-eqb, ne-eqb, le-leb, lt-leb, lt-ltb, le-ltb}
+use borrow.Author.Tests.{eq-eqb, ne-eqb}
 use lib.Dec.{leb, ltb, eqb}
 use lib.ListN.{length}
 use Rattle.wire.specs.Field.{bit}
-use Rattle.calendar.specs.Date.{year, month, day, daysIn, firstYear, lastYear, isDate, dayNumber}
-use Rattle.calendar.specs.Days.{dateOf, lastDate, dayAfter, weekday, saturday, sunday}
+use Rattle.calendar.specs.Date.{year, daysIn, firstYear, lastYear, isDate, dayNumber}
+use Rattle.calendar.specs.Days.{dateOf, dayAfter, weekday, saturday, sunday}
 use Rattle.calendar.proofs.Days.{date-of, after-later, after-next, after-number, after-date, to-last}
 use Rattle.calendar.proofs.Facts.{facts}
-use Rattle.easter.specs.Easter.{marchDate, easterDay, goodFriday, easterMonday}
+use Rattle.easter.specs.Easter.{easterDay, goodFriday, easterMonday}
 use Rattle.easter.proofs.Laws.{easter-within, march-date, march-from, march-to, march-rises}
 use Rattle.opendays.specs.OpenDay.{weekend, holidays, holiday, among, openDay}
 use Rattle.opendays.specs.Questions.{openFrom, openDays}
-use Rattle.opendays.specs.Counting.{workdaysBefore, closedAt, closedIn, closedOver, total}
+use Rattle.opendays.specs.Counting.{workdaysBefore, closedIn, closedOver}
 use Rattle.opendays.proofs.Count.{countOf, count-over, count-same, count-none, count-sum, Rises, count-list, count-blocks, count-inside}
 
 abbrev pub workday : ℕ → Bool

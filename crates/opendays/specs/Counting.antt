@@ -1,11 +1,19 @@
 -- How the code counts open days: the days from Monday to Friday by whole weeks, less the holidays among them, year by year. That this is
 -- the length of the list in Questions is proved in proofs/Stretch.antt. Assumes nothing.
-use Prim.Native.Nat.{ℕ, zero, suc, _+_, _*_, _-_, _/_, _%_}
-use mathlib.Core.Bool.{not, _&&_}
+use Prim.Native.Nat.{ℕ, zero, suc, _+_, _*_, _-_, _/_, _%_, _<_}
+use mathlib.Core.Path.{_≡_}
+use mathlib.Core.Bool.{true, not, _&&_}
 use mathlib.Core.List.{List, [], _∷_}
 use lib.Dec.{leb, ltb}
 use Rattle.wire.specs.Field.{bit}
+use Rattle.calendar.specs.Date.{isDate}
 use Rattle.opendays.specs.OpenDay.{weekend, holidays}
+
+-- a stretch from one date to a later one
+pub record Forward (from to : ℕ) : Type 0 where
+  pub first : isDate from ≡ true
+  pub second : isDate to ≡ true
+  pub later : from < to
 
 -- those from Monday to Friday among the first n days, which begin with a Saturday and a Sunday
 abbrev pub workdaysBefore : ℕ → ℕ

@@ -3,10 +3,11 @@
 ghost use mathlib.Core.Path.{_≡_};
 ghost use mathlib.Core.Bool.{true};
 ghost use Prim.Native.Nat.{suc, _-_, _≤_, _<_};
-ghost use Rattle.calendar.specs.Date.{year, firstYear, lastYear, isDate};
+ghost use Rattle.calendar.specs.Date.{year, isDate};
+ghost use Rattle.calendar.specs.Days.{YearOf, allDays};
 ghost use Rattle.opendays.specs.OpenDay.{weekend, holidays, holiday, openDay};
 ghost use Rattle.opendays.specs.Questions.{openDays, openDayAnswer, nextOpenDayAnswer, openDaysAnswer, numberOf, valueOf};
-ghost use Rattle.opendays.specs.Counting.{workdaysBefore, closedAt, closedIn, closedOver};
+ghost use Rattle.opendays.specs.Counting.{Forward, workdaysBefore, closedAt, closedIn, closedOver};
 
 // `lastDate` of the definitions.
 const LAST_DATE: u32 = 22991231;
@@ -25,12 +26,12 @@ fn weekend(d: u32) -> bool
     ensures { λ r. ⌜ r ≡ weekend d ⌝ }
 {
     let w = calendar::weekday(d);
-    (w == 6) | (w == 0)
+    (w == calendar::SATURDAY) | (w == calendar::SUNDAY)
 }
 
 // The holidays of a year, in their order.
 fn holidays(y: u32) -> [u32; 6]
-    requires { ⌜ (firstYear ≤ y) × (y ≤ lastYear) ⌝ }
+    requires { ⌜ YearOf y ⌝ }
     ensures { λ r. ⌜ r ≡ holidays y ⌝ }
 {
     let sunday = easter::easter_day(y);
@@ -143,7 +144,7 @@ pub fn value_of(answer: Answer) -> u32
 
 // The days from Monday to Friday among the first n, which begin with a Saturday and a Sunday.
 fn workdays_before(n: u32) -> u32
-    requires { ⌜ n < 109573 ⌝ }
+    requires { ⌜ n < allDays ⌝ }
     ensures { λ r. ⌜ r ≡ workdaysBefore n ⌝ }
 {
     let rest = n % 7;
@@ -168,7 +169,7 @@ fn closed_at(from: u32, to: u32, h: u32) -> u32
 
 // The holidays of a year that do.
 fn closed_in(from: u32, to: u32, y: u32) -> u32
-    requires { ⌜ (firstYear ≤ y) × (y ≤ lastYear) ⌝ }
+    requires { ⌜ YearOf y ⌝ }
     ensures { λ r. ⌜ (r ≡ closedIn from to y) × (r ≤ 6) ⌝ }
 {
     let days = holidays(y);
@@ -182,7 +183,7 @@ fn closed_in(from: u32, to: u32, y: u32) -> u32
 
 // Those of all years of the stretch.
 fn closed_between(from: u32, to: u32) -> u32
-    requires { ⌜ (isDate from ≡ true) × (isDate to ≡ true) × (from < to) ⌝ }
+    requires { ⌜ Forward from to ⌝ }
     ensures { λ r. ⌜ r ≡ closedOver from to (year from) (suc (year to) - year from) ⌝ }
 {
     let last = to / 10000;
@@ -197,7 +198,7 @@ fn closed_between(from: u32, to: u32) -> u32
 
 // The open days of a stretch.
 fn counted(from: u32, to: u32) -> u32
-    requires { ⌜ (isDate from ≡ true) × (isDate to ≡ true) × (from < to) ⌝ }
+    requires { ⌜ Forward from to ⌝ }
     ensures { λ r. ⌜ r ≡ openDays from to ⌝ }
 {
     workdays_before(calendar::day_number(to))

@@ -13,7 +13,7 @@ unfolding easterComputes
 returns c =
     -- the constant as it lies before it is read: the table itself, so that it is not written here again
     let table = lts.m1 reads.Pre reads.Post (c .args) (c .blocks) .1 .1 .0 in
-    by-rule table (c .args .y) refl refl (c .pre .0) (c .pre .1)
+    by-rule table (c .args .y) refl refl (c .pre .notBefore) (c .pre .notAfter)
 
 pub easter-sunday-spec : {M : Type 1} → statement M
 easter-sunday-spec = tie.close (tie.spec (λ c. search needs) (λ c. search needs) (λ c. search needs) (λ c. search needs) returns)

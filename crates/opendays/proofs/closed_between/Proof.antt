@@ -1,8 +1,7 @@
 -- `opendays::closed_between` meets its contract: one year after the other. Assumes nothing.
-use mathlib.Core.Path.{_≡_, refl}
-use Prim.Native.Nat.{suc, _+_, _*_, _-_, _≤_}
+use mathlib.Core.Path.{_≡_}
+use Prim.Native.Nat.{suc, _*_, _-_, _≤_}
 use native.Mathlib.Omega.{arith}
-use borrow.Author.Needs.{needs}
 use Rattle.calendar.proofs.Facts.{facts}
 use Rattle.opendays.specs.Counting.{closedIn, over}
 use Rattle.opendays.proofs.Laws.{over-more, over-none, over-all}
@@ -17,27 +16,27 @@ abbrev μ-loop : tie.MeasureT-loop
 μ-loop from to last y₀ closed₀ y closed = suc last - y
 
 loop-holds : tie.Need-loop-holds Inv-loop μ-loop
-loop-holds c = (omega arith, omega (arith, c .pre .2), over-none _ _, omega arith)
+loop-holds c = (omega arith, omega (arith, c .pre .later), over-none _ _, omega arith)
 
 closed-in-requires : tie.Need-closed-in-requires Inv-loop μ-loop
 closed-in-requires c κs =
     let at = c .before .before in
-    let f = facts (at .args .from) (at .pre .0) in
-    let t = facts (at .args .to) (at .pre .1) in
-    (omega (arith, f .fromFirstYear, c .before .loop .inv .0), omega (arith, t .toLastYear, c .loop-test .taken))
+    let f = facts (at .args .from) (at .pre .first) in
+    let t = facts (at .args .to) (at .pre .second) in
+    record { notBefore = omega (arith, f .fromFirstYear, c .before .loop .inv .0); notAfter = omega (arith, t .toLastYear, c .loop-test .taken) }
 
 add-closed : tie.Need-add-closed Inv-loop μ-loop
 add-closed c =
     let at = c .before .before .before in
-    let f = facts (at .args .from) (at .pre .0) in
-    let t = facts (at .args .to) (at .pre .1) in
+    let f = facts (at .args .from) (at .pre .first) in
+    let t = facts (at .args .to) (at .pre .second) in
     let inv = c .before .before .loop .inv in
     record { fits = omega (arith, inv .1, inv .3, c .closed-in .ensures .1, f .fromFirstYear, t .toLastYear) }
 
 add-y : tie.Need-add-y Inv-loop μ-loop
 add-y c =
     let at = c .before .before .before in
-    let t = facts (at .args .to) (at .pre .1) in
+    let t = facts (at .args .to) (at .pre .second) in
     record { fits = omega (arith, t .toLastYear, c .before .before .loop .inv .1) }
 
 loop-less : tie.Need-loop-less Inv-loop μ-loop

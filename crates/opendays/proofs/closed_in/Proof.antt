@@ -8,26 +8,26 @@ use Rattle.opendays.proofs.closed_in.Statement.{statement}
 use Rattle.opendays.proofs.closed_in.Tie as tie
 
 closed-at-requires : tie.Need-closed-at-requires
-closed-at-requires c κs = rw (c .holidays .ensures) (holidays-of _ (c .before .pre .0) (c .before .pre .1) .newYear)
+closed-at-requires c κs = rw (c .holidays .ensures) (holidays-of _ (c .before .pre .notBefore) (c .before .pre .notAfter) .newYear)
 
 closed-at-requires-2 : tie.Need-closed-at-requires-2
-closed-at-requires-2 c κs = let at = c .before in rw (at .holidays .ensures) (holidays-of _ (at .before .pre .0) (at .before .pre .1) .friday)
+closed-at-requires-2 c κs = let at = c .before in rw (at .holidays .ensures) (holidays-of _ (at .before .pre .notBefore) (at .before .pre .notAfter) .friday)
 
 closed-at-requires-3 : tie.Need-closed-at-requires-3
-closed-at-requires-3 c κs = let at = c .before .before in rw (at .holidays .ensures) (holidays-of _ (at .before .pre .0) (at .before .pre .1) .monday)
+closed-at-requires-3 c κs = let at = c .before .before in rw (at .holidays .ensures) (holidays-of _ (at .before .pre .notBefore) (at .before .pre .notAfter) .monday)
 
 closed-at-requires-4 : tie.Need-closed-at-requires-4
-closed-at-requires-4 c κs = let at = c .before .before .before in rw (at .holidays .ensures) (holidays-of _ (at .before .pre .0) (at .before .pre .1) .may)
+closed-at-requires-4 c κs = let at = c .before .before .before in rw (at .holidays .ensures) (holidays-of _ (at .before .pre .notBefore) (at .before .pre .notAfter) .may)
 
 closed-at-requires-5 : tie.Need-closed-at-requires-5
 closed-at-requires-5 c κs =
     let at = c .before .before .before .before in
-    rw (at .holidays .ensures) (holidays-of _ (at .before .pre .0) (at .before .pre .1) .christmas)
+    rw (at .holidays .ensures) (holidays-of _ (at .before .pre .notBefore) (at .before .pre .notAfter) .christmas)
 
 closed-at-requires-6 : tie.Need-closed-at-requires-6
 closed-at-requires-6 c κs =
     let at = c .before .before .before .before .before in
-    rw (at .holidays .ensures) (holidays-of _ (at .before .pre .0) (at .before .pre .1) .second)
+    rw (at .holidays .ensures) (holidays-of _ (at .before .pre .notBefore) (at .before .pre .notAfter) .second)
 
 returns : tie.Need-returns
 returns c =

@@ -10,10 +10,10 @@ use Rattle.opendays.proofs.counted.Statement.{statement}
 use Rattle.opendays.proofs.counted.Tie as tie
 
 workdays-before-requires : tie.Need-workdays-before-requires
-workdays-before-requires c κs = rw (c .day-number .ensures) (number-small _ (c .before .pre .1))
+workdays-before-requires c κs = rw (c .day-number .ensures) (number-small _ (c .before .pre .second))
 
 workdays-before-requires-2 : tie.Need-workdays-before-requires-2
-workdays-before-requires-2 c κs = rw (c .day-number2 .ensures) (number-small _ (c .before .before .before .pre .0))
+workdays-before-requires-2 c κs = rw (c .day-number2 .ensures) (number-small _ (c .before .before .before .pre .first))
 
 sub-result : tie.Need-sub-result
 sub-result c =
@@ -22,7 +22,7 @@ sub-result c =
     let start = first .before .before in
     let upTo = first .workdays-before .ensures ∙ ap workdaysBefore (first .before .day-number .ensures) in
     let upFrom = c .workdays-before2 .ensures ∙ ap workdaysBefore (second .day-number2 .ensures) in
-    omega (arith, upTo, upFrom, stretch (start .args .from) (start .args .to) (start .pre .0) (start .pre .1) (le-of-lt (start .pre .2)))
+    omega (arith, upTo, upFrom, stretch (start .args .from) (start .args .to) (start .pre .first) (start .pre .second) (le-of-lt (start .pre .later)))
 
 sub-result-2 : tie.Need-sub-result-2
 sub-result-2 c =
@@ -31,7 +31,7 @@ sub-result-2 c =
     let start = first .before .before in
     let upTo = first .workdays-before .ensures ∙ ap workdaysBefore (first .before .day-number .ensures) in
     let upFrom = c .before .workdays-before2 .ensures ∙ ap workdaysBefore (second .day-number2 .ensures) in
-    omega (arith, upTo, upFrom, c .closed-between .ensures, stretch (start .args .from) (start .args .to) (start .pre .0) (start .pre .1) (le-of-lt (start .pre .2)))
+    omega (arith, upTo, upFrom, c .closed-between .ensures, stretch (start .args .from) (start .args .to) (start .pre .first) (start .pre .second) (le-of-lt (start .pre .later)))
 
 returns : tie.Need-returns
 returns c =
@@ -40,7 +40,7 @@ returns c =
     let start = first .before .before in
     let upTo = first .workdays-before .ensures ∙ ap workdaysBefore (first .before .day-number .ensures) in
     let upFrom = c .before .workdays-before2 .ensures ∙ ap workdaysBefore (second .day-number2 .ensures) in
-    omega (arith, upTo, upFrom, c .closed-between .ensures, stretch (start .args .from) (start .args .to) (start .pre .0) (start .pre .1) (le-of-lt (start .pre .2)))
+    omega (arith, upTo, upFrom, c .closed-between .ensures, stretch (start .args .from) (start .args .to) (start .pre .first) (start .pre .second) (le-of-lt (start .pre .later)))
 
 pub counted-spec : {M : Type 1} → statement M
 counted-spec =

@@ -6,7 +6,7 @@ use Rattle.opendays.proofs.holiday.Statement.{statement}
 use Rattle.opendays.proofs.holiday.Tie as tie
 
 holidays-requires : tie.Need-holidays-requires
-holidays-requires c κs = let f = facts _ (c .pre) in (f .fromFirstYear, f .toLastYear)
+holidays-requires c κs = let f = facts _ (c .pre) in record { notBefore = f .fromFirstYear; notAfter = f .toLastYear }
 
 returns : tie.Need-returns
 returns c = six-days _ _ (c .holidays .ensures)

@@ -11,7 +11,7 @@ sub-march-date c = let at = c .before in omega (arith, at .easter-day .ensures, 
 march-date-requires : tie.Need-march-date-requires
 march-date-requires c κs =
     let at = c .before in
-    (at .before .pre .1, omega (arith, at .easter-day .ensures, easter-within (at .before .args .y)))
+    (at .before .pre .notAfter, omega (arith, at .easter-day .ensures, easter-within (at .before .args .y)))
 
 add-march-date : tie.Need-add-march-date
 add-march-date c =
@@ -21,7 +21,7 @@ add-march-date c =
 march-date-requires-2 : tie.Need-march-date-requires-2
 march-date-requires-2 c κs =
     let at = c .before .before in
-    (at .before .pre .1, omega (arith, at .easter-day .ensures, easter-within (at .before .args .y)))
+    (at .before .pre .notAfter, omega (arith, at .easter-day .ensures, easter-within (at .before .args .y)))
 
 returns : tie.Need-returns
 returns c =

@@ -1,6 +1,6 @@
 -- `opendays::open_days` meets its contract: each answer is that of the way that led to it. Assumes nothing.
-use mathlib.Core.Path.{refl, sym, ap, _∙_}
-use mathlib.Core.Bool.{_&&_, and-eq-true-iff}
+use mathlib.Core.Path.{sym, _∙_}
+use mathlib.Core.Bool.{and-eq-true-iff}
 use borrow.Author.Needs.{needs}
 use Rattle.opendays.proofs.Laws.{days-told, days-no-date, days-none}
 use Rattle.opendays.proofs.open_days.Statement.{statement}
@@ -10,7 +10,7 @@ counted-requires : tie.Need-counted-requires
 counted-requires c κs =
     let asked = c .before .before in
     let both = and-eq-true-iff _ _ .0 (c .before .if1 .taken) in
-    (sym (asked .before .is-date .ensures) ∙ both .0, sym (asked .is-date2 .ensures) ∙ both .1, c .if2 .taken)
+    record { first = sym (asked .before .is-date .ensures) ∙ both .0; second = sym (asked .is-date2 .ensures) ∙ both .1; later = c .if2 .taken }
 
 returns : tie.Need-returns
 returns c =
