@@ -1,8 +1,8 @@
 -- What the answers mean. Proved of every number: the next open day is the first after it, and where none is told there is none; the number
 -- of open days over two stretches adds up; and the first open day after a date is one further by that number. Assumes nothing.
 use mathlib.Core.Path.{_≡_, refl, sym, ap, _∙_}
-use mathlib.Core.Bool.{Bool, true, false, and-eq-true-iff}
-use mathlib.Core.Option.{none, some}
+use mathlib.Core.Bool.{Bool, true, false, cond, and-eq-true-iff}
+use mathlib.Core.Option.{Option, none, some}
 use Prim.Native.Nat.{ℕ, suc, _+_, _-_, _≤_}
 use native.Mathlib.Nat.{add-zero}
 use native.Mathlib.Omega.{arith}
@@ -12,7 +12,8 @@ use Rattle.calendar.specs.Date.{isDate}
 use Rattle.calendar.specs.Days.{lastDate}
 use Rattle.calendar.proofs.Days.{to-last}
 use Rattle.opendays.specs.OpenDay.{openDay}
-use Rattle.opendays.specs.Questions.{openDays, nextOpenDay}
+use Rattle.opendays.specs.Questions.{openDays, nextOpenDay, firstAnswer, nextOpenDayAnswer}
+use Rattle.opendays.specs.declared.Answer.the-variants.{NoDate, NoneLater, Told}
 use Rattle.opendays.specs.Promise.{FirstAfter, NoneAfter}
 use Rattle.opendays.proofs.Count.{countOf, count-over, count-none}
 use Rattle.opendays.proofs.Stretch.{days-counted}
@@ -41,6 +42,25 @@ none-means d found x later = by (openDay x) refl
     by true e =
         sym e ∙ first-nowhere openDay (lastDate - d) (suc d) found x later
         (let within : x ≤ lastDate = to-last x (open-is-date x e) in omega arith)
+
+-- so by the answers themselves
+pub told-means : (d e : ℕ) → nextOpenDayAnswer d ≡ Told e → FirstAfter d e
+unfolding nextOpenDayAnswer
+told-means d e answer = by (isDate d) (nextOpenDay d) refl answer
+  where
+    by : (t : Bool) (found : Option ℕ) → nextOpenDay d ≡ found → cond t (firstAnswer found) NoDate ≡ Told e → FirstAfter d e
+    by true (some x) is told = let same : x ≡ e = cc in next-means d e (rw (← same) is)
+    by true none is told = absurd (let z : _≡_ {A = ℕ} 0 1 = cc in omega arith)
+    by false found is told = absurd (let z : _≡_ {A = ℕ} 0 1 = cc in omega arith)
+
+pub none-later-means : (d : ℕ) → nextOpenDayAnswer d ≡ NoneLater → NoneAfter d
+unfolding nextOpenDayAnswer
+none-later-means d answer = by (isDate d) (nextOpenDay d) refl answer
+  where
+    by : (t : Bool) (found : Option ℕ) → nextOpenDay d ≡ found → cond t (firstAnswer found) NoDate ≡ NoneLater → NoneAfter d
+    by true (some x) is told = absurd (let z : _≡_ {A = ℕ} 0 1 = cc in omega arith)
+    by true none is told = none-means d is
+    by false found is told = absurd (let z : _≡_ {A = ℕ} 0 1 = cc in omega arith)
 
 -- ---- how many
 
