@@ -4,8 +4,8 @@ use mathlib.Core.Path.{_≡_, refl}
 use mathlib.Core.Bool.{Bool, true, false}
 use mathlib.Core.List.{List, [], _∷_, map}
 use Prim.Native.Nat.{ℕ}
-use Rattle.calendar.specs.Date.{isDate, dayNumber}
-use Rattle.calendar.specs.Days.{dayAfter, weekday}
+use Rattle.calendar.specs.Date.{isDate, daysOfYears, dayNumber}
+use Rattle.calendar.specs.Days.{allDays, dayAfter, weekday}
 use Rattle.calendar.proofs.Computing.{datesCompute, daysCompute}
 
 pub dates : List (ℕ × Bool)
@@ -47,6 +47,10 @@ numbers =
 pub numbersRight : map (λ c. dayNumber (c .0)) numbers ≡ map (λ c. c .1) numbers
 unfolding daysCompute numbers
 numbersRight = refl
+
+pub allDaysRight : daysOfYears 300 ≡ allDays
+unfolding daysCompute
+allDaysRight = refl
 
 -- a Thursday, a Friday, a Sunday, a Monday, and the last date
 pub weekdays : List (ℕ × ℕ)

@@ -9,7 +9,7 @@ use native.Mathlib.Omega.{arith}
 use borrow.Author.Tests.{eqb-true, eqb-false, eq-eqb, ne-eqb}
 use lib.Dec.{ltb, lit≤}
 use lib.ListN.{getD}
-use Rattle.calendar.specs.Date.{leap, daysIn, daysInYear, firstYear, lastYear, isDate, divisible, daysOfYears, daysOfMonths, dayNumber}
+use Rattle.calendar.specs.Date.{year, month, leap, daysIn, daysInYear, firstYear, lastYear, isDate, divisible, daysOfYears, daysOfMonths, dayNumber}
 use Rattle.calendar.specs.Days.{allDays}
 use Rattle.calendar.proofs.Facts.{facts}
 use Rattle.calendar.proofs.Agree.{agree}
@@ -128,3 +128,9 @@ months-small y m h = le-trans (monthsGrow y m 13 h) (le-trans (le-of-eq (wholeYe
 pub number-small : (d : ℕ) → isDate d ≡ true → dayNumber d < allDays
 unfolding daysOfYears leap
 number-small d h = laterYear d (suc lastYear) (facts d h) (omega (arith, facts d h .toLastYear))
+
+-- whole years and whole months of a date together
+pub parts-small : (d : ℕ) → isDate d ≡ true → daysOfYears (year d - firstYear) + daysOfMonths (year d) (month d) ≤ allDays + 366
+parts-small d h =
+    let f = facts d h in
+    omega (arith, years-small (year d - firstYear) (omega (arith, f .toLastYear)), months-small (year d) (month d) (omega (arith, f .toDecember)))

@@ -13,12 +13,7 @@ use Rattle.calendar.proofs.Agree.{agree}
 use Rattle.calendar.proofs.Facts.{DateFacts, facts}
 use Rattle.calendar.proofs.Order.{wholeYear, nextYear}
 
--- ---- from facts to a date
-
-pub is-date : (d : ℕ) → DateFacts d → isDate d ≡ true
-unfolding isDate
-is-date d f =
-    rw (le-leb firstYear (year d) (f .fromFirstYear), le-leb (year d) lastYear (f .toLastYear), le-leb 1 (day d) (f .fromFirstDay), le-leb (day d) _ (f .toLastDay))
+-- ---- the parts of a date
 
 -- each month has from 28 to 31 days
 month-length : (y m : ℕ) → 1 ≤ m → m ≤ 12 → (28 ≤ daysIn y m) × (daysIn y m ≤ 31)

@@ -1,5 +1,6 @@
-// Dates of the Gregorian calendar, written as the number YYYYMMDD. Proved: on every number each function gives what the definition of
-// its name in specs/Date.antt says. That the definitions fit the calendar is for a reader to see there, and in proofs/Cases.antt.
+// Dates of the Gregorian calendar, written as the number YYYYMMDD. Proved: each function gives what the definition of its name in specs/
+// says, `leap`, `days_in` and `is_date` on every number, the others on dates. That the definitions fit the calendar is for a reader to see
+// there, and in proofs/Cases.antt.
 ghost use mathlib.Core.Path.{_≡_};
 ghost use mathlib.Core.Bool.{true};
 ghost use Prim.Native.Nat.{_≤_};

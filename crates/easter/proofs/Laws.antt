@@ -1,6 +1,6 @@
 -- What follows from the rule. Proved of each year: the full moon lies from 21 March to 18 April and Easter Sunday from 22 March to
--- 25 April. Of the years of the calendar: it is a Sunday, Good Friday the Friday two days before it and Easter Monday the day after, and
--- the three are dates of the year. Assumes nothing.
+-- 25 April; it is a Sunday, Good Friday the Friday two days before it and Easter Monday the day after. Of the years of the calendar: each
+-- such day of March or April is a date. Assumes nothing.
 use mathlib.Core.Path.{_≡_, refl, ap, _∙_}
 use mathlib.Core.Bool.{Bool, true, false, cond, _&&_, _||_}
 use Prim.Native.Nat.{ℕ, _+_, _-_, _≤_, _<_}
@@ -9,16 +9,16 @@ use native.Mathlib.Decide.{decLt}
 use native.Mathlib.Omega.{arith}
 use borrow.Author.Tests.{eqb-true, eqb-false, le-leb, lt-leb, lt-ltb, le-ltb}
 use lib.Dec.{ltb, eqb}
-use Rattle.calendar.specs.Date.{year, month, day, daysIn, firstYear, lastYear, isDate, daysOfYears, daysOfMonths, dayNumber}
+use Rattle.calendar.specs.Date.{month, day, daysIn, firstYear, lastYear, isDate, daysOfYears, daysOfMonths, dayNumber}
 use Rattle.calendar.specs.Days.{dateOf, weekday, sunday}
 use Rattle.calendar.proofs.Days.{date-of, number-of}
-use Rattle.easter.specs.Easter.{goldenNumber, epact, movedEpact, marchDate, fullMoon, easterDay, easterSunday, goodFriday, easterMonday}
+use Rattle.easter.specs.Easter.{epact, movedEpact, marchDate, fullMoon, easterDay, easterSunday, goodFriday, easterMonday}
 
 -- ---- when it is
 
 -- 24 is moved, and nothing is moved to it
 moved : (y : ℕ) → (movedEpact y ≤ 29) × (movedEpact y ≡ 24 → ⊥)
-moved y = go (epact y) (ltb 11 (goldenNumber y)) (mod-lt _ (omega arith))
+moved y = go (epact y) _ (mod-lt _ (omega arith))
   where
     go : (e : ℕ) (late : Bool) → e < 30 → (cond (eqb e 24 || eqb e 25 && late) (e + 1) e ≤ 29) × (cond (eqb e 24 || eqb e 25 && late) (e + 1) e ≡ 24 → ⊥)
     go e late h = by (eqb e 24) (eqb e 25) refl refl
@@ -69,9 +69,6 @@ by-month y n P march april =
       | yes l ↦ rw (in-april y n l) (april l)
       | no m ↦ let l : n ≤ 31 = omega arith in rw (in-march y n l) (march l)
     ]
-
-pub march-year : (y n : ℕ) → n ≤ 61 → year (marchDate y n) ≡ y
-march-year y n h = by-month y n (λ d. year d ≡ y) (λ l. omega arith) (λ l. omega arith)
 
 pub march-date : (y n : ℕ) → firstYear ≤ y → y ≤ lastYear → 1 ≤ n → n ≤ 61 → isDate (marchDate y n) ≡ true
 march-date y n from to one most =

@@ -19,7 +19,7 @@ century y = y / 100 + 1
 
 -- ---- the moon
 
--- the leap days that were left out since then, three in four centuries
+-- the leap days that were left out since 1582, three in four centuries
 abbrev pub leapDaysDropped : ℕ → ℕ
 leapDaysDropped y = 3 * century y / 4 - 12
 

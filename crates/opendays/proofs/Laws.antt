@@ -10,8 +10,6 @@ use native.Mathlib.Omega.{arith}
 use lib.Dec.{eqb}
 use lib.ListN.{getD}
 use Rattle.calendar.specs.Date.{year, isDate}
-use Rattle.calendar.specs.Days.{dateOf}
-use Rattle.easter.specs.Easter.{goodFriday, easterMonday}
 use Rattle.opendays.specs.OpenDay.{weekend, holidays, holiday, openDay}
 use Rattle.opendays.specs.Questions.{openFrom, openDays, nextOpenDay, openDayAnswer, nextOpenDayAnswer, openDaysAnswer}
 use Rattle.opendays.specs.Counting.{total, over}
@@ -33,9 +31,10 @@ six-numbers a b c d e f = omega arith
 
 pub six-days : (d : ℕ) (days : List ℕ) → days ≡ holidays (year d)
     → (eqb d (getD days 0 0) || eqb d (getD days 1 0) || eqb d (getD days 2 0) || eqb d (getD days 3 0) || eqb d (getD days 4 0) || eqb d (getD days 5 0)) ≡ holiday d
-six-days d days e =
-    let y = year d in
-    rw e (six-tests (eqb d (dateOf y 1 1)) (eqb d (goodFriday y)) (eqb d (easterMonday y)) (eqb d (dateOf y 5 1)) (eqb d (dateOf y 12 25)) (eqb d (dateOf y 12 26)))
+six-days d days e = rw e (six-tests (is 0) (is 1) (is 2) (is 3) (is 4) (is 5))
+  where
+    is : ℕ → Bool
+    is k = eqb d (getD (holidays (year d)) k 0)
 
 -- as the code adds them up, and as the definition does
 pub six-closed : (g : ℕ → ℕ) (days : List ℕ) (y a b c d e f : ℕ) → days ≡ holidays y
@@ -46,9 +45,10 @@ pub six-closed : (g : ℕ → ℕ) (days : List ℕ) (y a b c d e f : ℕ) → d
     → e ≡ g (getD days 4 0)
     → f ≡ g (getD days 5 0)
     → a + b + c + d + e + f ≡ total g (holidays y)
-six-closed g days y a b c d e f same pa pb pc pd pe pf =
-    rw (pa, pb, pc, pd, pe, pf, same)
-    (six-numbers (g (dateOf y 1 1)) (g (goodFriday y)) (g (easterMonday y)) (g (dateOf y 5 1)) (g (dateOf y 12 25)) (g (dateOf y 12 26)))
+six-closed g days y a b c d e f same pa pb pc pd pe pf = rw (pa, pb, pc, pd, pe, pf, same) (six-numbers (at 0) (at 1) (at 2) (at 3) (at 4) (at 5))
+  where
+    at : ℕ → ℕ
+    at k = g (getD (holidays y) k 0)
 
 -- ---- a day
 

@@ -4,7 +4,7 @@ use mathlib.Core.Path.{_≡_, refl, sym, ap, _∙_}
 use mathlib.Core.Bool.{Bool, true, false, cond, and-eq-true-iff}
 use mathlib.Core.Option.{Option, none, some}
 use Prim.Native.Nat.{ℕ, suc, _+_, _-_, _≤_}
-use native.Mathlib.Nat.{add-zero}
+use native.Mathlib.Nat.{add-zero, le-of-lt}
 use native.Mathlib.Omega.{arith}
 use Rattle.wire.specs.Field.{bit}
 use Rattle.wire.proofs.Scans.{first-found, first-before, first-nowhere}
@@ -74,26 +74,25 @@ days-one : (d : ℕ) → openDays d (suc d) ≡ bit (openDay d)
 unfolding countOf
 days-one d = let width : suc d - d ≡ 1 = omega arith in rw (days-counted d (suc d), width) (add-zero _)
 
--- the first open day after d is one further by the count, both ends counted: whatever the first date is, there is one open day more up to
--- it than up to d
+-- between a date and the first open day after it nothing is open
+none-between : (d e : ℕ) → FirstAfter d e → openDays (suc d) e ≡ 0
+none-between d e first = days-counted (suc d) e ∙ count-none openDay (suc d) (e - suc d) (λ k l h. first .noneBetween k l (omega (arith, first .isLater)))
+
+-- so up to that day there is one open day more than up to the date if the date is open itself, and as many if not
+pub next-counted : (from d e : ℕ) → from ≤ d → nextOpenDay d ≡ some e → openDays from e ≡ openDays from d + bit (openDay d)
+next-counted from d e low found =
+    let first = next-means d e found in
+    omega (arith, days-add from d e low (le-of-lt (first .isLater)), days-add d (suc d) e (omega arith) (first .isLater), days-one d, none-between d e first)
+
+-- and with both of them counted it is one further always
 pub one-further : (from d e : ℕ) → from ≤ d → nextOpenDay d ≡ some e → openDays from (suc e) ≡ openDays from (suc d) + 1
 one-further from d e low found =
     let first = next-means d e found in
-    let nothing = count-none openDay (suc d) (e - suc d) (λ k l h. first .noneBetween k l (omega (arith, first .isLater))) in
     let itself : openDays e (suc e) ≡ 1 = days-one e ∙ ap bit (first .isOpen) in
     omega (
       arith,
       days-add from (suc d) (suc e) (omega arith) (omega (arith, first .isLater)),
       days-add (suc d) e (suc e) (first .isLater) (omega arith),
-      days-counted (suc d) e,
-      nothing,
+      none-between d e first,
       itself,
     )
-
--- and from an open day to the next there is one
-pub one-to-next : (d e : ℕ) → openDay d ≡ true → nextOpenDay d ≡ some e → openDays d e ≡ 1
-one-to-next d e here found =
-    let first = next-means d e found in
-    let nothing = count-none openDay (suc d) (e - suc d) (λ k l h. first .noneBetween k l (omega (arith, first .isLater))) in
-    let itself : openDays d (suc d) ≡ 1 = days-one d ∙ ap bit here in
-    omega (arith, days-add d (suc d) e (omega arith) (first .isLater), days-counted (suc d) e, nothing, itself)

@@ -3,24 +3,24 @@
 use mathlib.Core.Path.{_≡_, refl, sym, ap, _∙_}
 use mathlib.Core.Logic.{⊎-elim}
 use mathlib.Core.Bool.{Bool, true, false, cond, not, _&&_, _||_}
-use mathlib.Core.List.{_∷_}
+use mathlib.Core.List.{List, [], _∷_}
 use Prim.Native.Nat.{ℕ, zero, suc, _+_, _*_, _-_, _%_, _≤_, _<_}
-use native.Mathlib.Nat.{add-zero, zero-add, eq-or-lt-of-le, le-of-lt, le-refl}
+use native.Mathlib.Nat.{add-zero, zero-add, eq-or-lt-of-le, le-of-lt, le-of-suc-le-suc, le-refl}
 use native.Mathlib.Decide.{decLt}
 use native.Mathlib.Omega.{arith}
 use borrow.Author.Tests.{eq-eqb, ne-eqb}
 use lib.Dec.{leb, ltb, eqb}
-use lib.ListN.{length}
+use lib.ListN.{length, getD}
 use Rattle.wire.specs.Field.{bit}
-use Rattle.calendar.specs.Date.{year, daysIn, firstYear, lastYear, isDate, dayNumber}
-use Rattle.calendar.specs.Days.{dateOf, dayAfter, weekday, saturday, sunday}
+use Rattle.calendar.specs.Date.{year, daysIn, isDate, dayNumber}
+use Rattle.calendar.specs.Days.{YearOf, dateOf, dayAfter, weekday, saturday, sunday}
 use Rattle.calendar.proofs.Days.{date-of, after-later, after-next, after-number, after-date, to-last}
 use Rattle.calendar.proofs.Facts.{facts}
-use Rattle.easter.specs.Easter.{easterDay, goodFriday, easterMonday}
+use Rattle.easter.specs.Easter.{easterDay}
 use Rattle.easter.proofs.Laws.{easter-within, march-date, march-from, march-to, march-rises}
 use Rattle.opendays.specs.OpenDay.{weekend, holidays, holiday, among, openDay}
 use Rattle.opendays.specs.Questions.{openFrom, openDays}
-use Rattle.opendays.specs.Counting.{workdaysBefore, closedIn, closedOver}
+use Rattle.opendays.specs.Counting.{Forward, workdaysBefore, closedAt, closedIn, closedOver, total}
 use Rattle.opendays.proofs.Count.{countOf, count-over, count-same, count-none, count-sum, Rises, count-list, count-blocks, count-inside}
 
 abbrev pub workday : ℕ → Bool
@@ -98,33 +98,47 @@ workdays-between a b ha hb low = steps b a b ha hb low (omega arith)
 abbrev closed : ℕ → ℕ → ℕ → Bool
 closed from to k = holiday k && (leb from k && ltb k to && workday k)
 
--- each of the six is a date of its year, in their order
-fixed-date : (y m k : ℕ) → firstYear ≤ y → y ≤ lastYear → m ≤ 99 → 1 ≤ k → k ≤ 99 → k ≤ daysIn y m → isDate (dateOf y m k) ≡ true
-fixed-date y m k from to mm one kk most = date-of (dateOf y m k) y m k (omega arith) (omega arith) (omega arith) from to one most
+abbrev AllDates : List ℕ → Type 0
+AllDates [] = Unit {0}
+AllDates (h ∷ hs) = (isDate h ≡ true) × AllDates hs
 
-pub record Holidays (y : ℕ) : Type 0 where
-  pub newYear : isDate (dateOf y 1 1) ≡ true
-  pub friday : isDate (goodFriday y) ≡ true
-  pub monday : isDate (easterMonday y) ≡ true
-  pub may : isDate (dateOf y 5 1) ≡ true
-  pub christmas : isDate (dateOf y 12 25) ≡ true
-  pub second : isDate (dateOf y 12 26) ≡ true
+date-at : (hs : List ℕ) (k : ℕ) → AllDates hs → k < length hs → isDate (getD hs k 0) ≡ true
+date-at [] k all h = absurd (omega arith)
+date-at (x ∷ hs) zero all h = all .0
+date-at (x ∷ hs) (suc k) all h = date-at hs k (all .1) (le-of-suc-le-suc h)
+
+fixed-date : (y m k : ℕ) → YearOf y → m ≤ 99 → 1 ≤ k → k ≤ 99 → k ≤ daysIn y m → isDate (dateOf y m k) ≡ true
+fixed-date y m k of mm one kk most = date-of (dateOf y m k) y m k (omega arith) (omega arith) (omega arith) (of .notBefore) (of .notAfter) one most
+
+-- the holidays of a year are dates, and stand in their order: here each is named, as in the definition and in the code
+record Holidays (y : ℕ) : Type 0 where
+  pub dates : AllDates (holidays y)
   pub rise : Rises (y * 10000) (y * 10000 + 10000) (holidays y)
 
-pub holidays-of : (y : ℕ) → firstYear ≤ y → y ≤ lastYear → Holidays y
+holidays-of : (y : ℕ) → YearOf y → Holidays y
 unfolding daysIn
-holidays-of y from to =
+holidays-of y of =
     let within = easter-within y in
     let friday-from = march-from y (easterDay y - 2) (omega (arith, within)) in
     let monday-to = march-to y (easterDay y + 1) (omega (arith, within)) in
     let rises = march-rises y (easterDay y - 2) (easterDay y + 1) (omega (arith, within)) in
     record {
-      newYear = fixed-date y 1 1 from to (omega arith) (omega arith) (omega arith) (omega arith);
-      friday = march-date y (easterDay y - 2) from to (omega (arith, within)) (omega (arith, within));
-      monday = march-date y (easterDay y + 1) from to (omega (arith, within)) (omega (arith, within));
-      may = fixed-date y 5 1 from to (omega arith) (omega arith) (omega arith) (omega arith);
-      christmas = fixed-date y 12 25 from to (omega arith) (omega arith) (omega arith) (omega arith);
-      second = fixed-date y 12 26 from to (omega arith) (omega arith) (omega arith) (omega arith);
+      dates = (
+        fixed-date y 1 1 of (omega arith) (omega arith) (omega arith) (omega arith),
+        (
+          march-date y (easterDay y - 2) (of .notBefore) (of .notAfter) (omega (arith, within)) (omega (arith, within)),
+          (
+            march-date y (easterDay y + 1) (of .notBefore) (of .notAfter) (omega (arith, within)) (omega (arith, within)),
+            (
+              fixed-date y 5 1 of (omega arith) (omega arith) (omega arith) (omega arith),
+              (
+                fixed-date y 12 25 of (omega arith) (omega arith) (omega arith) (omega arith),
+                (fixed-date y 12 26 of (omega arith) (omega arith) (omega arith) (omega arith), tt),
+              ),
+            ),
+          ),
+        ),
+      );
       rise = (
         omega arith,
         omega arith,
@@ -148,14 +162,23 @@ holidays-of y from to =
       );
     }
 
+-- so is each that the code reads
+pub holiday-date : (y k : ℕ) (days : List ℕ) → YearOf y → days ≡ holidays y → k < 6 → isDate (getD days k 0) ≡ true
+holiday-date y k days of same h = rw same (date-at (holidays y) k (holidays-of y of .dates) h)
+
+-- of dates a workday need not be asked to be one
+of-dates : (from to : ℕ) (hs : List ℕ) → AllDates hs → total (λ h. bit (leb from h && ltb h to && workday h)) hs ≡ total (closedAt from to) hs
+of-dates from to [] all = refl
+of-dates from to (h ∷ hs) all = rw (all .0, of-dates from to hs (all .1))
+
 -- those of one year, of which a number below the next year's is
-year-closed : (from to y : ℕ) → firstYear ≤ y → y ≤ lastYear → countOf (closed from to) (y * 10000) 10000 ≡ closedIn from to y
-year-closed from to y low high =
-    let h = holidays-of y low high in
+year-closed : (from to y : ℕ) → YearOf y → countOf (closed from to) (y * 10000) 10000 ≡ closedIn from to y
+year-closed from to y of =
+    let h = holidays-of y of in
     count-same (closed from to) (λ k. among k (holidays y) && test k) (y * 10000) 10000
     (λ k a b. let same : year k ≡ y = omega arith in ap (λ z. among k (holidays z) && test k) same)
     ∙ count-list test (y * 10000) 10000 (y * 10000) (y * 10000 + 10000) (holidays y) (le-refl _) (le-refl _) (h .rise)
-    ∙ (rw (h .newYear, h .friday, h .monday, h .may, h .christmas, h .second))
+    ∙ of-dates from to (holidays y) (h .dates)
   where
     test : ℕ → Bool
     test k = leb from k && ltb k to && workday k
@@ -169,7 +192,7 @@ closed-between from to hf ht low =
     let years : year from ≤ year to = omega arith in
     sym (count-inside workday holiday from to (year from * 10000) ((suc (year to) - year from) * 10000) (omega arith) low (omega arith))
     ∙ count-blocks (closed from to) (closedIn from to) 10000 (year from) (suc (year to) - year from)
-    (λ z a b. year-closed from to z (omega (arith, f .fromFirstYear)) (omega (arith, t .toLastYear)))
+    (λ z a b. year-closed from to z (record { notBefore = omega (arith, f .fromFirstYear); notAfter = omega (arith, t .toLastYear) }))
 
 -- ---- the list
 
@@ -207,3 +230,10 @@ stretch from to hf ht low =
       count-sum workday openDay (λ k. workday k && holiday k) parted from (to - from),
       closed-between from to hf ht low,
     )
+
+-- as the code takes it: u and v are the workdays before the two dates, k the holidays between them
+pub weeks-less-holidays : (from to u v k : ℕ) → Forward from to → u ≡ workdaysBefore (dayNumber to) → v ≡ workdaysBefore (dayNumber from) → k ≡ closedOver from to (year from) (suc (year to) - year from)
+    → (v ≤ u) × (k ≤ u - v) × (u - v - k ≡ openDays from to)
+weeks-less-holidays from to u v k f eu ev ek =
+    let whole = stretch from to (f .first) (f .second) (le-of-lt (f .later)) in
+    (omega (arith, eu, ev, ek, whole), omega (arith, eu, ev, ek, whole), omega (arith, eu, ev, ek, whole))

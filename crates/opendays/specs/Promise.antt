@@ -1,4 +1,4 @@
--- What the answers mean, told of the days themselves: the three questions in a form in which a caller may use them. Assumes nothing.
+-- What the next open day is, and that there is none, told of the days themselves. Assumes nothing.
 use mathlib.Core.Path.{_≡_}
 use mathlib.Core.Bool.{true, false}
 use Prim.Native.Nat.{ℕ, _<_}

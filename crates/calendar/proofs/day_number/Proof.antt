@@ -1,9 +1,8 @@
 -- `calendar::day_number` meets its contract: years, months and days together, and they fit. Assumes nothing.
-use Prim.Native.Nat.{_-_}
 use native.Mathlib.Omega.{arith}
-use Rattle.calendar.specs.Date.{year, month, firstYear, dayNumber}
+use Rattle.calendar.specs.Date.{dayNumber}
 use Rattle.calendar.proofs.Facts.{facts}
-use Rattle.calendar.proofs.Counting.{years-small, months-small}
+use Rattle.calendar.proofs.Counting.{parts-small}
 use Rattle.calendar.proofs.day_number.Statement.{statement}
 use Rattle.calendar.proofs.day_number.Tie as tie
 
@@ -25,19 +24,11 @@ sub-result c = facts (c .before .before .args .d) (c .before .before .pre) .from
 
 add-result : tie.Need-add-result
 add-result c =
-    let d = c .before .before .args .d in
-    let f = facts d (c .before .before .pre) in
-    let years = years-small (year d - firstYear) (omega (arith, f .toLastYear)) in
-    let months = months-small (year d) (month d) (omega (arith, f .toDecember)) in
-    record { fits = omega (arith, c .before .days-of-years .ensures, c .days-of-months .ensures, years, months) }
+    record { fits = omega (arith, c .before .days-of-years .ensures, c .days-of-months .ensures, parts-small (c .before .before .args .d) (c .before .before .pre)) }
 
 add-result-2 : tie.Need-add-result-2
 add-result-2 c =
-    let d = c .before .before .args .d in
-    let f = facts d (c .before .before .pre) in
-    let years = years-small (year d - firstYear) (omega (arith, f .toLastYear)) in
-    let months = months-small (year d) (month d) (omega (arith, f .toDecember)) in
-    record { fits = omega (arith, c .before .days-of-years .ensures, c .days-of-months .ensures, years, months) }
+    record { fits = omega (arith, c .before .days-of-years .ensures, c .days-of-months .ensures, parts-small (c .before .before .args .d) (c .before .before .pre)) }
 
 pub day-number-spec : {M : Type 1} → statement M
 day-number-spec = tie.close (tie.spec sub-days-of-years days-of-years-requires days-of-months-requires add-result sub-result add-result-2 returns)

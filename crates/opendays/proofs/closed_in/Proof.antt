@@ -1,33 +1,30 @@
 -- `opendays::closed_in` meets its contract: the six are dates, and their numbers add up. Assumes nothing.
 use native.Mathlib.Omega.{arith}
+use lib.Dec.{lit<}
 use borrow.Author.Needs.{needs}
 use Rattle.opendays.specs.Counting.{closedAt}
 use Rattle.opendays.proofs.Laws.{six-closed}
-use Rattle.opendays.proofs.Stretch.{holidays-of}
+use Rattle.opendays.proofs.Stretch.{holiday-date}
 use Rattle.opendays.proofs.closed_in.Statement.{statement}
 use Rattle.opendays.proofs.closed_in.Tie as tie
 
 closed-at-requires : tie.Need-closed-at-requires
-closed-at-requires c κs = rw (c .holidays .ensures) (holidays-of _ (c .before .pre .notBefore) (c .before .pre .notAfter) .newYear)
+closed-at-requires c κs = let at = c in holiday-date _ 0 _ (at .before .pre) (at .holidays .ensures) (lit< tt)
 
 closed-at-requires-2 : tie.Need-closed-at-requires-2
-closed-at-requires-2 c κs = let at = c .before in rw (at .holidays .ensures) (holidays-of _ (at .before .pre .notBefore) (at .before .pre .notAfter) .friday)
+closed-at-requires-2 c κs = let at = c .before in holiday-date _ 1 _ (at .before .pre) (at .holidays .ensures) (lit< tt)
 
 closed-at-requires-3 : tie.Need-closed-at-requires-3
-closed-at-requires-3 c κs = let at = c .before .before in rw (at .holidays .ensures) (holidays-of _ (at .before .pre .notBefore) (at .before .pre .notAfter) .monday)
+closed-at-requires-3 c κs = let at = c .before .before in holiday-date _ 2 _ (at .before .pre) (at .holidays .ensures) (lit< tt)
 
 closed-at-requires-4 : tie.Need-closed-at-requires-4
-closed-at-requires-4 c κs = let at = c .before .before .before in rw (at .holidays .ensures) (holidays-of _ (at .before .pre .notBefore) (at .before .pre .notAfter) .may)
+closed-at-requires-4 c κs = let at = c .before .before .before in holiday-date _ 3 _ (at .before .pre) (at .holidays .ensures) (lit< tt)
 
 closed-at-requires-5 : tie.Need-closed-at-requires-5
-closed-at-requires-5 c κs =
-    let at = c .before .before .before .before in
-    rw (at .holidays .ensures) (holidays-of _ (at .before .pre .notBefore) (at .before .pre .notAfter) .christmas)
+closed-at-requires-5 c κs = let at = c .before .before .before .before in holiday-date _ 4 _ (at .before .pre) (at .holidays .ensures) (lit< tt)
 
 closed-at-requires-6 : tie.Need-closed-at-requires-6
-closed-at-requires-6 c κs =
-    let at = c .before .before .before .before .before in
-    rw (at .holidays .ensures) (holidays-of _ (at .before .pre .notBefore) (at .before .pre .notAfter) .second)
+closed-at-requires-6 c κs = let at = c .before .before .before .before .before in holiday-date _ 5 _ (at .before .pre) (at .holidays .ensures) (lit< tt)
 
 returns : tie.Need-returns
 returns c =

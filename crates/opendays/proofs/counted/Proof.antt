@@ -1,11 +1,9 @@
 -- `opendays::counted` meets its contract: weeks less holidays are the open days. Assumes nothing.
-use mathlib.Core.Path.{ap, _∙_}
-use native.Mathlib.Nat.{le-of-lt}
-use native.Mathlib.Omega.{arith}
+use mathlib.Core.Path.{refl, ap, _∙_}
 use borrow.Author.Needs.{needs}
 use Rattle.calendar.proofs.Counting.{number-small}
 use Rattle.opendays.specs.Counting.{workdaysBefore}
-use Rattle.opendays.proofs.Stretch.{stretch}
+use Rattle.opendays.proofs.Stretch.{weeks-less-holidays}
 use Rattle.opendays.proofs.counted.Statement.{statement}
 use Rattle.opendays.proofs.counted.Tie as tie
 
@@ -17,30 +15,29 @@ workdays-before-requires-2 c κs = rw (c .day-number2 .ensures) (number-small _ 
 
 sub-result : tie.Need-sub-result
 sub-result c =
-    let second = c .before in
-    let first = second .before in
+    let first = c .before .before in
     let start = first .before .before in
     let upTo = first .workdays-before .ensures ∙ ap workdaysBefore (first .before .day-number .ensures) in
-    let upFrom = c .workdays-before2 .ensures ∙ ap workdaysBefore (second .day-number2 .ensures) in
-    omega (arith, upTo, upFrom, stretch (start .args .from) (start .args .to) (start .pre .first) (start .pre .second) (le-of-lt (start .pre .later)))
+    let upFrom = c .workdays-before2 .ensures ∙ ap workdaysBefore (c .before .day-number2 .ensures) in
+    weeks-less-holidays (start .args .from) (start .args .to) _ _ _ (start .pre) upTo upFrom refl .0
 
 sub-result-2 : tie.Need-sub-result-2
 sub-result-2 c =
-    let second = c .before .before in
-    let first = second .before in
+    let second = c .before in
+    let first = second .before .before in
     let start = first .before .before in
     let upTo = first .workdays-before .ensures ∙ ap workdaysBefore (first .before .day-number .ensures) in
-    let upFrom = c .before .workdays-before2 .ensures ∙ ap workdaysBefore (second .day-number2 .ensures) in
-    omega (arith, upTo, upFrom, c .closed-between .ensures, stretch (start .args .from) (start .args .to) (start .pre .first) (start .pre .second) (le-of-lt (start .pre .later)))
+    let upFrom = second .workdays-before2 .ensures ∙ ap workdaysBefore (second .before .day-number2 .ensures) in
+    weeks-less-holidays (start .args .from) (start .args .to) _ _ _ (start .pre) upTo upFrom (c .closed-between .ensures) .1
 
 returns : tie.Need-returns
 returns c =
-    let second = c .before .before in
-    let first = second .before in
+    let second = c .before in
+    let first = second .before .before in
     let start = first .before .before in
     let upTo = first .workdays-before .ensures ∙ ap workdaysBefore (first .before .day-number .ensures) in
-    let upFrom = c .before .workdays-before2 .ensures ∙ ap workdaysBefore (second .day-number2 .ensures) in
-    omega (arith, upTo, upFrom, c .closed-between .ensures, stretch (start .args .from) (start .args .to) (start .pre .first) (start .pre .second) (le-of-lt (start .pre .later)))
+    let upFrom = second .workdays-before2 .ensures ∙ ap workdaysBefore (second .before .day-number2 .ensures) in
+    weeks-less-holidays (start .args .from) (start .args .to) _ _ _ (start .pre) upTo upFrom (c .closed-between .ensures) .2
 
 pub counted-spec : {M : Type 1} → statement M
 counted-spec =
