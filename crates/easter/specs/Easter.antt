@@ -1,6 +1,6 @@
 -- Easter Sunday of a year by the Gregorian rule: the Sunday after the full moon of spring, where that moon is reckoned and not looked at.
--- The steps and their numbers are those of the reform of 1582. Definitions only; of the years 2000 to 2299 the crate is about, no
--- difference goes below 0.
+-- The steps and their numbers are those of the reform of 1582. Definitions only; in the years 2000 to 2299 no subtraction here would go
+-- below 0.
 use Prim.Native.Nat.{ℕ, _+_, _*_, _-_, _/_, _%_}
 use mathlib.Core.Bool.{cond, _&&_, _||_}
 use lib.Dec.{leb, ltb, eqb}
