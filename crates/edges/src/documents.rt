@@ -10,7 +10,7 @@ const MOST_SPACE: usize = 256;
 const MARK: u8 = 165;
 
 // Where the text ends, and where it ended at the line `mark`.
-#[derive(Drop)]
+#[derive(Clone, Copy)]
 pub(crate) struct Ends {
     pub text: usize,
     pub mark: usize,

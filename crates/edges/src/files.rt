@@ -59,7 +59,7 @@ pub(crate) fn put_entry(register: &mut [u8], sender: &[u8], identifier: &[u8], t
     writing::put_number(register, 0, 4, k as u64 + 1);
 }
 
-#[derive(Drop)]
+#[derive(Clone, Copy)]
 pub(crate) struct Field {
     pub place: usize,
     pub width: usize,

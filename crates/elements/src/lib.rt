@@ -16,7 +16,7 @@ use letters::Reach;
 use tags::Tag;
 
 // Where reading ended: after what was read, at a place at which the form is broken, or at a '<' that is too deep.
-#[derive(Drop)]
+#[derive(Clone, Copy)]
 pub enum Step {
     Done(usize),
     Form(usize),

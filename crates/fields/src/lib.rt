@@ -24,7 +24,7 @@ const MOST_KEPT: usize = 35;
 // ---- texts
 
 // What the text at a place says: so many bytes of its own from that place on; or it is not that simple.
-#[derive(Drop)]
+#[derive(Clone, Copy)]
 enum Straight {
     Says(usize),
     Otherwise,

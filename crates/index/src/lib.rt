@@ -10,7 +10,7 @@ use slots::{Ended, Layout};
 const SLOTS_A_PLACE: usize = 2;
 
 // What a search tells: whether the key is there, and of a search by the index how it ended.
-#[derive(Drop)]
+#[derive(Clone, Copy)]
 pub struct Sought {
     pub there: bool,
     pub ended: Ended,

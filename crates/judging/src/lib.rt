@@ -12,21 +12,21 @@ use refusing::{Checked, Refusal};
 use rules::Terms;
 
 // What a call is answered with: a refusal, or the length of the report.
-#[derive(Drop)]
+#[derive(Clone, Copy)]
 pub enum Answer {
     Refused(Refusal),
     Judged(usize),
 }
 
 // What a call with an index is answered with: besides, the slots that the searches read.
-#[derive(Drop)]
+#[derive(Clone, Copy)]
 pub struct IndexedAnswer {
     pub answer: Answer,
     pub slots: u64,
 }
 
 // What the building of an index is answered with.
-#[derive(Drop)]
+#[derive(Clone, Copy)]
 pub enum Building {
     Unbuilt(Refusal),
     Built,

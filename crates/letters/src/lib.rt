@@ -6,14 +6,14 @@ ghost use Rattle.letters.specs.Characters.{is_character, single, double, triple,
 ghost use Rattle.letters.specs.References.{digit_of, digit_in, numeral, numbered_at, stands, reference_at};
 
 // Where something ends, or the place at which its form is broken.
-#[derive(Drop)]
+#[derive(Clone, Copy)]
 pub enum Reach {
     To(usize),
     Broken(usize),
 }
 
 // One turn of a walk: it goes on from a place, ends at one, or breaks there.
-#[derive(Drop)]
+#[derive(Clone, Copy)]
 pub enum Turn {
     On(usize),
     Ends(usize),
@@ -21,7 +21,7 @@ pub enum Turn {
 }
 
 // A reference: the number of the character that it stands for, and the place after it.
-#[derive(Drop)]
+#[derive(Clone, Copy)]
 pub enum Reference {
     Stands(usize, usize),
     Nothing,

@@ -5,7 +5,7 @@ ghost use Rattle.letters.specs.Places.{run};
 ghost use Rattle.meanings.specs.Meanings.{digit, digits, decimal, number_meant, amount_meant, is_date, date_number, date_meant, meant_if, filled, receiver};
 
 // What a text means as a number, or that it is of another form.
-#[derive(Drop)]
+#[derive(Clone, Copy)]
 pub enum Meant {
     Is(u64),
     Nothing,

@@ -23,7 +23,7 @@ const REJECTED: u8 = 1;
 const FELL: u8 = 2;
 
 // What is known of a bulk when its messages are judged: its header, its sender's row, and whether it fell.
-#[derive(Drop)]
+#[derive(Clone, Copy)]
 pub struct Ruling {
     pub header: Header,
     pub row: Found,
@@ -31,14 +31,14 @@ pub struct Ruling {
 }
 
 // What became of a message: whether it was accepted, and the slots that the search of its key read.
-#[derive(Drop)]
+#[derive(Clone, Copy)]
 struct Verdict {
     accepted: bool,
     slots: u32,
 }
 
 // What a bulk's messages come to, and the slots that were read for them.
-#[derive(Drop)]
+#[derive(Clone, Copy)]
 pub struct Counts {
     pub tally: Tally,
     pub slots: u64,

@@ -11,7 +11,7 @@ ghost use Rattle.opendays.specs.Counting.{Forward, workdays_before, closed_at, c
 const LAST_DATE: u32 = 22991231;
 
 // What a question is answered with.
-#[derive(Drop)]
+#[derive(Clone, Copy)]
 pub enum Answer {
     NoDate,
     NoneLater,

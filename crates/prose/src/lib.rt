@@ -9,7 +9,7 @@ use letters::{Reach, Reference, Turn};
 
 // A piece of what a text says: so many bytes that stand for themselves, or one character that is written otherwise and the place after
 // it; the place after the start or the end of a section; or no piece.
-#[derive(Drop)]
+#[derive(Clone, Copy)]
 pub enum Piece {
     Itself(usize),
     Other(usize, usize),
@@ -18,7 +18,7 @@ pub enum Piece {
 }
 
 // What a text says, cut to as many bytes as are kept, or filled up with spaces; and how many it says, 36 for more than are kept.
-#[derive(Drop)]
+#[derive(Clone, Copy)]
 pub struct Said {
     pub bytes: [u8; 35],
     pub length: usize,

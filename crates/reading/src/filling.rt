@@ -14,7 +14,7 @@ use letters::Reach;
 use tags::Tag;
 
 // After something that was read, and after the messages of it that were written.
-#[derive(Drop)]
+#[derive(Clone, Copy)]
 pub struct Put {
     pub next: usize,
     pub at: usize,

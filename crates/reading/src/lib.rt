@@ -9,7 +9,7 @@ ghost use Rattle.reading.specs.Reading.{outcome, outcome_of, reads, number_of, l
 use letters::Reach;
 
 // What became of a text: a sheet of so many bytes was made; or why not, and at which place.
-#[derive(Drop)]
+#[derive(Clone, Copy)]
 pub enum Reading {
     Made(usize),
     Form(usize),

@@ -9,7 +9,7 @@ ghost use Rattle.reading.specs.declared.survey.Survey.TheVariants.{Fine, Lack, S
 use elements::Step;
 
 // What was seen of a document: where its reading ended, the first place so far at which something lacks, how many messages it has.
-#[derive(Drop)]
+#[derive(Clone, Copy)]
 pub struct Seen {
     pub step: Step,
     pub lack: usize,
@@ -17,14 +17,14 @@ pub struct Seen {
 }
 
 // What room is left for bulks, and whether it was too short for one.
-#[derive(Drop)]
+#[derive(Clone, Copy)]
 pub struct Room {
     pub left: usize,
     pub short: bool,
 }
 
 // What a first reading of all documents tells: so many bulks have room; or why there is no sheet.
-#[derive(Drop)]
+#[derive(Clone, Copy)]
 pub enum Survey {
     Fine(usize),
     Form(usize),

@@ -13,7 +13,7 @@ ghost use Rattle.refusing.specs.declared.Refusal.TheVariants.{Date, Table, Posit
 use rules::Terms;
 
 // Why a file is turned away, in the order in which the reasons are looked for.
-#[derive(Drop)]
+#[derive(Clone, Copy)]
 pub enum Refusal {
     Date,
     Table,
@@ -31,14 +31,14 @@ pub enum Refusal {
 }
 
 // The bulks and the messages that a whole sheet holds.
-#[derive(Drop)]
+#[derive(Clone, Copy)]
 pub struct Contents {
     pub bulks: usize,
     pub messages: usize,
 }
 
 // The first refusal, or what a file that passes holds.
-#[derive(Drop)]
+#[derive(Clone, Copy)]
 pub enum Checked {
     Stopped(Refusal),
     Fine(Contents),

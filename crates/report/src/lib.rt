@@ -52,7 +52,7 @@ pub fn space_for(bulks: usize, messages: usize) -> usize
 }
 
 // Where the next bulk's line and section begin.
-#[derive(Drop)]
+#[derive(Clone, Copy)]
 pub struct Places {
     pub line: usize,
     pub section: usize,

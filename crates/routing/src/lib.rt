@@ -36,7 +36,7 @@ const HOLDER: u8 = 6;
 const THROUGH_STEP2: u8 = 20;
 
 // Why a question is turned away.
-#[derive(Drop)]
+#[derive(Clone, Copy)]
 pub enum Refusal {
     Date,
     Table,
@@ -44,21 +44,21 @@ pub enum Refusal {
 }
 
 // The place of a row, if there is one.
-#[derive(Drop)]
+#[derive(Clone, Copy)]
 pub enum Found {
     Row(usize),
     Nothing,
 }
 
 // The BIC of a head office: so many characters of the text. Of a BIC shorter than an institution's it is shorter.
-#[derive(Drop)]
+#[derive(Clone, Copy)]
 pub struct HeadOffice {
     pub text: [u8; BIC_WIDTH],
     pub length: usize,
 }
 
 // What a question of the table is answered with.
-#[derive(Drop)]
+#[derive(Clone, Copy)]
 pub enum Answer {
     Refused(Refusal),
     Missing,

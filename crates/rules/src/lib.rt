@@ -10,7 +10,7 @@ use routing::Found;
 use tally::Cents;
 
 // What a call asks to be judged by, besides its bytes.
-#[derive(Drop)]
+#[derive(Clone, Copy)]
 pub struct Terms {
     pub date: u32,
 }

@@ -12,19 +12,19 @@ pub const PAYMENT: u8 = 1;
 pub const RETURN: u8 = 3;
 
 // A place in the sheet. Each method hands back the place after what it read.
-#[derive(Drop)]
+#[derive(Clone, Copy)]
 pub struct Cursor {
     pub at: usize,
 }
 
-#[derive(Drop)]
+#[derive(Clone, Copy)]
 pub struct Counted {
     pub count: u32,
     pub next: Cursor,
 }
 
 // The numbers of a header, and where it begins. Its texts are read by name, where they are asked for.
-#[derive(Drop)]
+#[derive(Clone, Copy)]
 pub struct Header {
     pub at: usize,
     pub kind: u8,
@@ -36,7 +36,7 @@ pub struct Header {
 }
 
 // The numbers of a message, its bulk's kind, and where it begins.
-#[derive(Drop)]
+#[derive(Clone, Copy)]
 pub struct Message {
     pub at: usize,
     pub kind: u8,
@@ -46,20 +46,20 @@ pub struct Message {
 }
 
 // The messages of a bulk: where the first begins, and how many there are.
-#[derive(Drop)]
+#[derive(Clone, Copy)]
 pub struct Section {
     pub at: usize,
     pub number: usize,
 }
 
 // Where the next bulk's header and its section begin.
-#[derive(Drop)]
+#[derive(Clone, Copy)]
 pub struct Walk {
     pub heads: Cursor,
     pub bodies: Cursor,
 }
 
-#[derive(Drop)]
+#[derive(Clone, Copy)]
 pub struct BulkRead {
     pub header: Header,
     pub section: Section,
@@ -67,7 +67,7 @@ pub struct BulkRead {
 }
 
 // The bulks and the messages of a whole sheet.
-#[derive(Drop)]
+#[derive(Clone, Copy)]
 pub enum Shape {
     Broken,
     Whole(usize, usize),

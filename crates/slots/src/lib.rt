@@ -19,7 +19,7 @@ const SQUARE: u64 = BASE * BASE;
 const FOURTH: u64 = SQUARE * SQUARE;
 
 // Where the keys of records stand: one every `stride` bytes from `first` on, each of `width` bytes.
-#[derive(Drop)]
+#[derive(Clone, Copy)]
 pub struct Layout {
     pub first: u32,
     pub stride: u32,
@@ -27,7 +27,7 @@ pub struct Layout {
 }
 
 // The end of a search: the slot, its content, and the number of slots that were looked at.
-#[derive(Drop)]
+#[derive(Clone, Copy)]
 pub struct Ended {
     pub place: u32,
     pub name: u32,

@@ -14,7 +14,7 @@ ghost use Rattle.tags.specs.Tags.{start_at, end_at};
 use letters::{Reach, Reference, Turn};
 
 // A start tag: where its attributes end, and the place after it; or where its form is broken.
-#[derive(Drop)]
+#[derive(Clone, Copy)]
 pub enum Tag {
     Open(usize, usize),
     Empty(usize, usize),

@@ -4,22 +4,22 @@ ghost use Rattle.tally.specs.Tally.{nothing, cents_of, totals_of, with_accepted,
 ghost use Rattle.tally.specs.Room.{Room, SideTold, most_counted};
 
 // Cents, as the high and the low half: the sum of a bulk can need more than one word.
-#[derive(Drop)]
+#[derive(Clone, Copy)]
 pub struct Cents(pub u64, pub u64);
 
 // A number of messages.
-#[derive(Drop)]
+#[derive(Clone, Copy)]
 pub struct Count(pub u32);
 
 // Messages and what they come to.
-#[derive(Drop)]
+#[derive(Clone, Copy)]
 pub struct Side {
     pub number: Count,
     pub cents: Cents,
 }
 
 // What a bulk has come to so far.
-#[derive(Drop)]
+#[derive(Clone, Copy)]
 pub struct Tally {
     pub accepted: Side,
     pub rejected: Side,

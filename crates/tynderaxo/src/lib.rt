@@ -15,7 +15,7 @@ use rules::Terms;
 
 // A refusal's number and the length 0, or 0 and the report's length.
 #[repr(C)]
-#[derive(Drop)]
+#[derive(Clone, Copy)]
 pub struct TynderaxoAnswer {
     pub number: u32,
     pub length: u64,
@@ -23,7 +23,7 @@ pub struct TynderaxoAnswer {
 
 // The same, and the slots that the searches read: 0 with a refusal.
 #[repr(C)]
-#[derive(Drop)]
+#[derive(Clone, Copy)]
 pub struct TynderaxoIndexedAnswer {
     pub number: u32,
     pub length: u64,
@@ -32,7 +32,7 @@ pub struct TynderaxoIndexedAnswer {
 
 // A refusal's number, or 0 with whether a row was found, its place, and whether it is reachable.
 #[repr(C)]
-#[derive(Drop)]
+#[derive(Clone, Copy)]
 pub struct TynderaxoRoute {
     pub number: u32,
     pub found: u32,
@@ -42,7 +42,7 @@ pub struct TynderaxoRoute {
 
 // A refusal's number and its place, or 0 and the sheet's length.
 #[repr(C)]
-#[derive(Drop)]
+#[derive(Clone, Copy)]
 pub struct TynderaxoReadAnswer {
     pub number: u32,
     pub length: u64,
@@ -51,7 +51,7 @@ pub struct TynderaxoReadAnswer {
 
 // A refusal's number and the value 0, or 0 and what was asked.
 #[repr(C)]
-#[derive(Drop)]
+#[derive(Clone, Copy)]
 pub struct TynderaxoDay {
     pub number: u32,
     pub value: u32,
