@@ -1,6 +1,8 @@
 // Dates of the Gregorian calendar, written as the number YYYYMMDD. Proved: each function gives what the definition of its name in specs/
 // says, `leap`, `days_in` and `is_date` on every number, the others on dates. That the definitions fit the calendar is for a reader to see
 // there, and in proofs/Cases.antt.
+#![tactic(auto)]
+
 ghost use Rattle.std.specs.Prelude.{◌≡◌, true, ◌≤◌};
 ghost use Rattle.calendar.specs.Date.{leap, days_in, is_date, days_of_years, days_of_months, day_number};
 ghost use Rattle.calendar.specs.Days.{date_of, day_after, weekday};

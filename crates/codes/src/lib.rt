@@ -1,5 +1,7 @@
 // Which codes a field may hold: BICs, reasons and names, or nothing but spaces. Each function takes any text and knows nothing of why
 // it is asked.
+#![tactic(auto)]
+
 ghost use Rattle.std.specs.Prelude.{◌≡◌, cond, ◌≤◌, length};
 ghost use Rattle.wording.specs.Wording.{upper, upper_or_digit, every, bic_formed, blank, one_of, reasons, answers_cancellation, names};
 

@@ -1,5 +1,7 @@
 // Text and decimal numbers, written into a lent buffer one piece after another: each function takes the place to write at and
 // answers the place after. What has no room is not written, and no place is past the end.
+#![tactic(auto)]
+
 ghost use Rattle.std.specs.Prelude.{◌≡◌, [], ◌∷◌, ◌+◌, ◌*◌, ◌^◌, ◌<◌, min, length};
 ghost use Rattle.decimals.specs.Decimal.{digits_of, decimal, field};
 ghost use Rattle.decimals.specs.Printed.{Printed};

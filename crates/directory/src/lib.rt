@@ -1,5 +1,7 @@
 // The rows of a routing table that count on a date, found by their BIC without a walk: slots that name the first such row of each BIC.
 // A judgement makes them once, in an array of its own, and asks them for the row of each sender and receiver.
+#![tactic(auto)]
+
 ghost use Rattle.std.specs.Prelude.{◌≡◌, ◌+◌};
 ghost use Rattle.routing.specs.Lookup.{option_of, row_of, head_office_row, route};
 ghost use Rattle.routing.specs.Promise.{RowTold};

@@ -1,5 +1,7 @@
 // Easter of the years 2000 to 2299. Proved: it is the day that the rule in specs/Easter.antt gives. That this is the rule of the calendar
 // is for a reader to see there, and in proofs/Cases.antt.
+#![tactic(auto)]
+
 ghost use Rattle.std.specs.Prelude.{◌≡◌, ◌≤◌};
 ghost use Rattle.calendar.specs.Date.{last_year};
 ghost use Rattle.calendar.specs.Days.{YearOf};

@@ -1,6 +1,8 @@
 // Runs the values at the edges of the rules through the proved judge, without an index and by one, the calendar of open days and the proved
 // reader, and prints a line for each. The cases are the lines of `stdin`, which say what they do at their start; `stdout` was worked out by
 // hand from the rules, and what it says of open days with Python's dates. Proved is that this one is safe and ends; what it prints is compared.
+#![tactic(auto)]
+
 mod days;
 mod documents;
 mod files;

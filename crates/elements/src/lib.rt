@@ -1,5 +1,7 @@
 // Elements within elements, each in its role. Proved: any text is read exactly as the grammar says, from any place, with any levels left;
 // and what is noted on the way is what the definition notes of the needed elements that were read.
+#![tactic(auto)]
+
 mod notes;
 mod over;
 

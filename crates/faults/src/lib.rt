@@ -1,4 +1,6 @@
 // The faults of a bulk and of a message as masks: every fact is asked, and each is set at its own bit, by name.
+#![tactic(auto)]
+
 ghost use Rattle.std.specs.Prelude.{◌≡◌};
 ghost use Rattle.masks.specs.Mask.{mask};
 ghost use Rattle.sheet.specs.Reading.{header_in, message_in};

@@ -1,6 +1,8 @@
 // The fields of the sheet: which form the text of each must have, by its role, and the bytes that it becomes. A text that does not say
 // its own bytes is asked by what is kept of what it says: no form allows more bytes than that. Every function takes any role, any slice
 // and any place.
+#![tactic(auto)]
+
 ghost use Rattle.std.specs.Prelude.{◌≡◌, [], ℕ, ◌<◌, length};
 ghost use Rattle.std.proofs.lemmas.List.Edits.{sets};
 ghost use Rattle.wire.specs.Field.{part, same};

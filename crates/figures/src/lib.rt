@@ -1,4 +1,6 @@
 // The lines that show figures only: a position, the entries in use, a refusal. Each is printed into a lent buffer.
+#![tactic(auto)]
+
 ghost use Rattle.decimals.specs.Printed.{Printed};
 ghost use Rattle.figures.specs.Figures.{signed_text, position_text, number_text, used_text, refusal_text};
 

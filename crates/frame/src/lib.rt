@@ -1,5 +1,7 @@
 // The program's input: a date, then table, register and sheet, each after its length. It may be of any length; what is read of it is
 // one byte more than the longest that is taken, so that a byte too many shows.
+#![tactic(auto)]
+
 ghost use Rattle.std.specs.Prelude.{◌≡◌};
 ghost use Rattle.frame.specs.Frame.{fits, part_in, after_part, table_on, register_on, sheet_on, in_shape, date_in, table_in, register_in, sheet_in};
 ghost use Rattle.frame.specs.Read.{ReadOf};

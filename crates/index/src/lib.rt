@@ -1,5 +1,7 @@
 // The register's keys found and added, plainly or by an index in lent bytes. Either way tells the same; by the index it reads a few slots
 // in place of all entries.
+#![tactic(auto)]
+
 ghost use Rattle.std.specs.Prelude.{◌≡◌};
 ghost use Rattle.wire.specs.Field.{same};
 ghost use Rattle.index.specs.Index.{entry_layout, index_length, index_of};

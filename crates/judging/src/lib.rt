@@ -1,5 +1,7 @@
 // The judge: whether a file is turned away, and if not, the judgement of each bulk and message. It searches the register plainly or by an
 // index of it, which can be built here. `judge`, `judge_indexed` and `build_index` may be called with anything.
+#![tactic(auto)]
+
 mod bulks;
 
 ghost use Rattle.std.specs.Prelude.{◌≡◌};

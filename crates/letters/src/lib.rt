@@ -1,4 +1,6 @@
 // What stands at a place of a text: bytes, words, characters in UTF-8, references. Every function takes any text and any place.
+#![tactic(auto)]
+
 ghost use Rattle.std.specs.Prelude.{◌≡◌, ◌+◌, ◌≤◌, ◌<◌, min, length};
 ghost use Rattle.std.proofs.lemmas.List.Edits.{sets};
 ghost use Rattle.letters.specs.Places.{byte_at, within, run_end, expected};

@@ -1,5 +1,7 @@
 // The lines of bulks and messages, printed into a lent buffer. A line of the report is taken as it comes: what is missing at its end
 // is printed as nothing or as 0.
+#![tactic(auto)]
+
 ghost use Rattle.std.specs.Prelude.{◌≡◌, map, ◌<◌};
 ghost use Rattle.tally.specs.Tally.{cents_of};
 ghost use Rattle.report.specs.Line.{totals_in};

@@ -1,4 +1,6 @@
 // Masks of facts: each bit is set and read by shift. Nothing here knows what a bit stands for.
+#![tactic(auto)]
+
 ghost use Rattle.std.specs.Prelude.{◌≡◌, ◌+◌, ◌*◌, ◌^◌, ◌<◌};
 ghost use Rattle.wire.specs.Field.{bit};
 ghost use Rattle.masks.specs.Mask.{shown};

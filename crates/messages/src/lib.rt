@@ -1,4 +1,6 @@
 // The messages of one bulk: their true sum, and the judgement of each.
+#![tactic(auto)]
+
 ghost use Rattle.std.specs.Prelude.{◌≡◌, cond, ◌*◌, ◌≤◌, length};
 ghost use Rattle.routing.specs.Lookup.{option_of};
 ghost use Rattle.sheet.specs.Reading.{header_in, message_in};

@@ -1,5 +1,7 @@
 // The days on which TARGET is open, and three questions of them. Proved: each answer is what the definition of its name says, of every
 // number that is asked. It knows nothing of files, and can be had without the judge.
+#![tactic(auto)]
+
 ghost use Rattle.std.specs.Prelude.{◌≡◌, true, suc, ◌-◌, ◌≤◌, ◌<◌};
 ghost use Rattle.calendar.specs.Date.{year, is_date};
 ghost use Rattle.calendar.specs.Days.{YearOf, all_days};

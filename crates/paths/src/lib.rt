@@ -1,5 +1,7 @@
 // The paths to the needed elements, as roles: what a child of a name plays in an element of a role. Proved: which role that is, and whether
 // an element lacks something needed, by the table of the definitions.
+#![tactic(auto)]
+
 mod children;
 
 ghost use Rattle.std.specs.Prelude.{◌≡◌, get_or, eqb};

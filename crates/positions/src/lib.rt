@@ -1,4 +1,6 @@
 // Positions: the signed cents of each row, in two's complement. Whether they leave room for a file, and a payment.
+#![tactic(auto)]
+
 ghost use Rattle.std.specs.Prelude.{◌≡◌};
 ghost use Rattle.std.proofs.Math.Option.{some};
 ghost use Rattle.positions.specs.Positions.{HasRow, rows, fits, position_at, negative, magnitude, has_room, room_for_all, gains, loses, pays};

@@ -1,4 +1,6 @@
 // What the program prints: `respond` takes the bytes that it reads, and writes those that it prints into a lent buffer.
+#![tactic(auto)]
+
 mod response;
 
 ghost use Rattle.printing.specs.Response.{response};

@@ -1,4 +1,6 @@
 // What stands before the first document: a mark, a declaration, spaces. Every function takes any text and any place.
+#![tactic(auto)]
+
 ghost use Rattle.std.specs.Prelude.{◌≡◌};
 ghost use Rattle.wire.specs.Field.{text};
 ghost use Rattle.letters.specs.Places.{run_end, expected};

@@ -1,4 +1,6 @@
 // The text of an element: where it ends, and what it says. Every function takes any text and any place.
+#![tactic(auto)]
+
 ghost use Rattle.std.specs.Prelude.{◌≡◌};
 ghost use Rattle.letters.specs.Places.{run_end};
 ghost use Rattle.letters.specs.References.{stands};

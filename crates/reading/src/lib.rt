@@ -1,4 +1,6 @@
 // Texts of documents read into a sheet: a first reading tells whether it can be made, a second one writes it.
+#![tactic(auto)]
+
 mod filling;
 mod survey;
 

@@ -1,5 +1,7 @@
 // The sheet's records, from the places at which the fields' texts begin: the header of a bulk, and a message. Every function takes any
 // slices and any place: what has no room is not written. So nobody above has to ask first.
+#![tactic(auto)]
+
 ghost use Rattle.std.specs.Prelude.{◌≡◌, ◌<◌, get_or};
 ghost use Rattle.std.proofs.lemmas.List.Edits.{sets};
 ghost use Rattle.wire.specs.Field.{bit};

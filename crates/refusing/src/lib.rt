@@ -1,5 +1,7 @@
 // Whether a file is turned away. Each condition is asked by one function, which hands on to the next where it does not hold, so the
 // order of the functions is the order of the refusals. Nothing is written.
+#![tactic(auto)]
+
 mod file;
 
 ghost use Rattle.std.specs.Prelude.{◌≡◌, ◌&&◌, not};

@@ -1,4 +1,6 @@
 // The register of used identifiers: its form, the search of a key, and adding one. It knows nothing of what an identifier means.
+#![tactic(auto)]
+
 ghost use Rattle.std.specs.Prelude.{◌≡◌, ◌+◌, ◌-◌, ◌≤◌, ◌<◌, length};
 ghost use Rattle.wire.specs.Field.{part, same};
 ghost use Rattle.wire.specs.Places.{first_from};

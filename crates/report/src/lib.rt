@@ -1,4 +1,6 @@
 // The report: the two kinds of line, written and read, and where they stand. It knows nothing of why a line says what it says.
+#![tactic(auto)]
+
 ghost use Rattle.std.specs.Prelude.{◌≡◌, ◌+◌, ◌*◌, ◌^◌, ◌≤◌, ◌<◌, length};
 ghost use Rattle.std.proofs.lemmas.List.Edits.{sets};
 ghost use Rattle.wire.specs.Field.{bytes_of};

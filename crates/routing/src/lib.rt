@@ -1,5 +1,7 @@
 // The routing table: its form, the row of a BIC on a date, and whether that row is reachable. It knows nothing of files, registers
 // or reports, and writes to nothing: it can be had without the judge, and the contract of `lookup` is all that one needs.
+#![tactic(auto)]
+
 ghost use Rattle.std.specs.Prelude.{◌≡◌, ◌+◌, ◌≤◌, length};
 ghost use Rattle.wire.specs.Field.{number_at};
 ghost use Rattle.routing.specs.Table.{date_width, row_at, row_width, bic_at, rows, known_kind, kind_at, kinds_known};

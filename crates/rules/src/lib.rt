@@ -1,5 +1,7 @@
 // The faults of a bulk and of a message: a function for each, of the fields that it looks at and no more; that of badly formed
 // identifiers is in the crate wording. Which bit shows it is said in the crate faults.
+#![tactic(auto)]
+
 ghost use Rattle.std.specs.Prelude.{◌≡◌};
 ghost use Rattle.routing.specs.Lookup.{option_of};
 ghost use Rattle.tally.specs.Tally.{cents_of};

@@ -1,5 +1,7 @@
 // All lines of a report, of the positions and of the register. Nothing here asks that a report is whole: past its end stands nothing,
 // and that is printed.
+#![tactic(auto)]
+
 mod layout;
 
 ghost use Rattle.decimals.specs.Printed.{Printed};

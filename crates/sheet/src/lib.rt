@@ -1,5 +1,7 @@
 // The sheet of a file: a cursor that reads its records one after the other, a walk over its bulks, whether it is whole, and the kinds
 // of its bulks. It knows the layout and no rule of judging; nobody above knows a place or a width.
+#![tactic(auto)]
+
 mod layout;
 
 ghost use Rattle.std.specs.Prelude.{◌≡◌, false, ◌+◌, ◌*◌, ◌≤◌, length};

@@ -1,5 +1,7 @@
 // An index in lent bytes: open slots that name records by the texts of their keys. It knows how many bytes the records have and where their
 // keys stand, and nothing of what they mean.
+#![tactic(auto)]
+
 ghost use Rattle.std.specs.Prelude.{◌≡◌, ◌+◌, ◌-◌, ◌*◌, ◌≤◌, ◌<◌, length, replicate};
 ghost use Rattle.wire.specs.Field.{same};
 ghost use Rattle.slots.specs.Slots.{start_at, names, stops_at};

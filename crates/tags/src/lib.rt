@@ -1,4 +1,6 @@
 // Names, attributes, start tags and end tags, at any place of any text.
+#![tactic(auto)]
+
 mod currency;
 mod ends;
 mod turns;

@@ -1,4 +1,6 @@
 // The running tally of a bulk: messages and cents, accepted and rejected. Cents may pass 64 bits, and never meet a number of messages.
+#![tactic(auto)]
+
 ghost use Rattle.std.specs.Prelude.{◌≡◌, ◌+◌, ◌^◌, ◌<◌, ◌≤◌};
 ghost use Rattle.tally.specs.Tally.{nothing, cents_of, totals_of, with_accepted, with_rejected};
 ghost use Rattle.tally.specs.Room.{Room, SideTold, most_counted};

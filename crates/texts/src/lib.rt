@@ -1,4 +1,6 @@
 // Texts compared, eight bytes at a time. Proved: any two slices are called equal exactly if they are as long and byte for byte equal.
+#![tactic(auto)]
+
 ghost use Rattle.std.specs.Prelude.{◌≡◌, reverse, ◌+◌, ◌^◌, ◌≤◌, ◌<◌, length};
 ghost use Rattle.wire.specs.Field.{part, number_of, same};
 

@@ -1,5 +1,7 @@
 // The doors for C: the proved judge, plain and with an index, lookup, reader and open days under C's calling convention, and nothing else. A caller owes what
 // include/tynderaxo.h says: pointers that are valid for their lengths, and no written buffer over another.
+#![tactic(auto)]
+
 ghost use Rattle.std.specs.Prelude.{◌≡◌};
 ghost use Rattle.judging.specs.Outcome.{outcome};
 ghost use Rattle.judging.specs.Indexed.{indexed_outcome, index_built};

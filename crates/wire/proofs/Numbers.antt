@@ -23,7 +23,7 @@ use Rattle.wire.specs.Field.{Bytes, part, number_from, number_of, number_at, byt
 from_append : (v : ℕ) (xs ys : List ℕ) → number_from v (xs ++ ys) ≡ number_from (number_from v xs) ys
 unfolding number_from
 from_append v [] ys = refl
-from_append v (x ∷ xs) ys = from_append _ xs ys
+from_append v (x ∷ xs) ys = from_append (v * 256 + x) xs ys
 
 -- what stands before a field counts 256 times as much for each of its bytes
 from_zero : (v : ℕ) (s : List ℕ) → number_from v s ≡ v * 256 ^ length s + number_of s

@@ -1,5 +1,7 @@
 // Numbers and text read from bytes. Every function but `four_at` takes any slice and any place: a field that runs past the end is read as
 // what is left of it. So nobody above has to ask first.
+#![tactic(auto)]
+
 ghost use Rattle.std.specs.Prelude.{◌≡◌, ◌+◌, ◌%◌, ◌^◌, ◌≤◌, ◌<◌, min, length};
 ghost use Rattle.wire.specs.Field.{part, number_of, number_at};
 

@@ -1,4 +1,6 @@
 // How identifiers have to be worded. Each function takes any text and knows nothing of why it is asked.
+#![tactic(auto)]
+
 ghost use Rattle.std.specs.Prelude.{◌≡◌, not, ◌<◌, length};
 ghost use Rattle.wording.specs.Wording.{allowed, kept, apart, spelled, formed, badly_formed};
 

@@ -1,5 +1,7 @@
 // Numbers and text written in bytes. Every function takes any slice and any place: what has no room is not written. So nobody above
 // has to ask first.
+#![tactic(auto)]
+
 ghost use Rattle.std.specs.Prelude.{◌≡◌, ◌*◌, ◌+◌, ◌^◌};
 ghost use Rattle.std.proofs.lemmas.List.Edits.{sets};
 ghost use Rattle.wire.specs.Field.{bytes_of};
