@@ -1,0 +1,24 @@
+-- `directory::add_row` meets its contract: a row that counts is added, another is not. Assumes nothing.
+use mathlib.Core.Path.{◌∙◌}
+use native.Mathlib.Nat.{le_of_lt}
+use Rattle.slots.specs.Asked.{end_of}
+use Rattle.directory.proofs.Laws.{rows_within, row_added, row_passed}
+use Rattle.directory.proofs.add_row.Goals as goal
+
+pub search-ended-requires : goal.search-ended-requires
+search-ended-requires c =
+    rw c.row_layout.ensures (rows_within c.args.table.now c.args.i c.requires.formed (le_of_lt c.requires.row))
+
+pub returns-then-counts : goal.returns-then-counts
+returns-then-counts c =
+    let a = c.args in
+    let counts = c.counts in
+    c.add.ensures
+    ∙ row_added a.date a.table.now a.i a.directory.now c.requires.is _ counts.ensures _ _ (end_of c.search-ended.result)
+    c.if-counts.true c.row_layout.ensures
+    c.bic_at-bic.ensures c.search-ended.ensures
+
+pub returns-else-counts : goal.returns-else-counts
+returns-else-counts c =
+    let a = c.args in
+    row_passed a.date a.table.now a.i a.directory.now c.requires.is _ c.counts.ensures c.if-counts.false

@@ -1,0 +1,9 @@
+-- `elements::notes::warn` meets its contract. Assumes nothing.
+use borrow.Author.Tests.{not-true, not-false}
+use Rattle.elements.proofs.notes.warn.Goals as goal
+
+pub returns-then-not-lack : goal.returns-then-not-lack
+returns-then-not-lack c = rw (not-true c.args.lack c.if-not-lack.true-raw)
+
+pub returns : goal.returns
+returns c = rw (not-false c.args.lack c.if-not-lack.false-raw, c.put_note.ensures, c.least-first.ensures, c.note_at.ensures)

@@ -1,0 +1,35 @@
+-- `printing::response::put_answer` meets its contract: the judge's answer, as it is printed. Assumes nothing.
+use mathlib.Core.Path.{◌≡◌}
+use lib.ListN.{length}
+use native.Mathlib.Omega.{arith}
+use Rattle.judging.specs.Outcome.{outcome}
+use Rattle.rules.specs.Terms.{dated}
+use Rattle.refusing.specs.Checking.{call_of}
+use Rattle.decimals.proofs.Runs.{reading}
+use Rattle.printing.proofs.Bounds.{answer_short}
+use Rattle.printing.proofs.Shapes.{refused_text, judged_text_lem}
+use Rattle.printing.proofs.response.put_answer.Goals as goal
+
+pub returns-in-Refused : goal.returns-in-Refused
+returns-in-Refused c =
+    let args = c.args in
+    let call = call_of (dated args.date) args.sheet.now args.table.now args.register.now args.positions.now args.report.now in
+    let judge = c.judge-answered in
+    let left = judge.new.1.1.1 in
+    let same : length left.1.0 ≡ length args.positions.now = judge.auto.1.1.1.1.0 in
+    record {
+      printed = reading (refused_text judge.result left.0 left.1.0 left.1.1.0 (outcome call) judge.ensures c.in-Refused.field-0 c.number_of.result c.in-Refused.is c.number_of.ensures) c.put_refusal.ensures;
+      short = answer_short call judge.result left.0 left.1.0 left.1.1.0 args.positions.now judge.ensures (λ i. (c.type_inv.sheet i).fits) (λ i. (c.type_inv.register i).fits) (λ i. (c.type_inv.positions i).fits) (λ i. (c.type_inv.report i).fits) same (omega (arith, c.before.before.before.before.before.before.before.before.before.before.before.before.before.before.before.before.before.before.before.before.before.before.before.well_formed_lem));
+    }
+
+pub returns-in-Judged : goal.returns-in-Judged
+returns-in-Judged c =
+    let args = c.args in
+    let call = call_of (dated args.date) args.sheet.now args.table.now args.register.now args.positions.now args.report.now in
+    let judge = c.judge-answered in
+    let left = judge.new.1.1.1 in
+    let same : length left.1.0 ≡ length args.positions.now = judge.auto.1.1.1.1.0 in
+    record {
+      printed = reading (judged_text_lem judge.result left.0 left.1.0 left.1.1.0 (outcome call) judge.ensures c.in-Judged.length c.text_at.result.now c.in-Judged.is c.text_at.ensures) c.put_judged.ensures;
+      short = answer_short call judge.result left.0 left.1.0 left.1.1.0 args.positions.now judge.ensures (λ i. (c.type_inv.sheet i).fits) (λ i. (c.slice_known-5-1.given i).fits) (λ i. (c.slice_known-6-1.given i).fits) (λ i. (c.slice_known-7-1.given i).fits) same (omega (arith, c.before.before.before.before.before.before.before.before.before.before.before.before.before.before.before.before.before.before.before.before.before.before.before.before.before.before.before.well_formed_lem));
+    }

@@ -1,0 +1,33 @@
+-- `prolog::setting` meets its contract: each answer is that of the way that led to it. Assumes nothing.
+use mathlib.Core.Path.{sym, ◌∙◌}
+use borrow.Author.Tests.{not-true, not-false}
+use Rattle.letters.specs.declared.Reach.TheVariants.{To, Broken}
+use Rattle.prolog.proofs.Settings.{setting_none, setting_named}
+use Rattle.prolog.proofs.setting.Goals as goal
+
+pub returns-then-not-is_space : goal.returns-then-not-is_space
+returns-then-not-is_space c =
+    let args = c.args in
+    let byte_at = c.byte_at in
+    setting_none args.k args.s.now args.at byte_at.result byte_at.ensures (sym c.is_space.ensures ∙ not-true _ c.if-not-is_space.true-raw)
+
+pub returns-in-To : goal.returns-in-To
+returns-in-To c =
+    let args = c.args in
+    let byte_at = c.byte_at in
+    let n = c.n-1 in
+    let space_end_lem = c.space_end in
+    c.equated.ensures
+    ∙ sym
+    (setting_named args.k args.s.now args.at byte_at.result byte_at.ensures (sym c.is_space.ensures ∙ not-false _ c.if-not-is_space.false-raw) space_end_lem.result space_end_lem.ensures
+    (To n.given.0.0) (sym c.name.ensures ∙ n.given.1))
+
+pub returns-in-Broken : goal.returns-in-Broken
+returns-in-Broken c =
+    let args = c.args in
+    let byte_at = c.byte_at in
+    let p = c.p-1 in
+    let space_end_lem = c.space_end in
+    sym
+    (setting_named args.k args.s.now args.at byte_at.result byte_at.ensures (sym c.is_space.ensures ∙ not-false _ c.if-not-is_space.false-raw) space_end_lem.result space_end_lem.ensures
+    (Broken p.given.0.0) (sym c.name.ensures ∙ p.given.1))

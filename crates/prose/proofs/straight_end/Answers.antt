@@ -1,0 +1,23 @@
+-- `prose::straight_end` meets its contract: what is left of the run ends where the whole does. Assumes nothing.
+use mathlib.Core.Path.{refl, sym, ◌∙◌}
+use borrow.Author.Rules.{rules}
+use borrow.Author.Tests.{not-true, not-false}
+use Rattle.letters.proofs.Scans.{run_on, run_stops, run_ends}
+use Rattle.prose.specs.Plain.{straight}
+use Rattle.prose.proofs.straight_end.Goals as goal
+
+pub loop-i-init : goal.loop-i-init
+loop-i-init c = refl
+
+pub returns-then-not-is_straight : goal.returns-then-not-is_straight
+returns-then-not-is_straight c =
+    let loop = c.loop-i in
+    run_stops straight c.args.s.now loop.i (search rules) (sym c.is_straight.ensures ∙ not-true _ c.if-not-is_straight.true-raw) ∙ loop.invariant
+
+pub loop-i-preserved : goal.loop-i-preserved
+loop-i-preserved c =
+    let loop = c.loop-i in
+    run_on straight c.args.s.now loop.i (search rules) (sym c.is_straight.ensures ∙ not-false _ c.if-not-is_straight.false-raw) ∙ loop.invariant
+
+pub returns : goal.returns
+returns c = run_ends straight _ _ c.loop-i-test.false ∙ c.loop-i.invariant

@@ -1,0 +1,8 @@
+-- `reading::filling::put_one` meets its contract. Assumes nothing.
+use mathlib.Core.Path.{◌∙◌}
+use Rattle.reading.proofs.filling.put_one.Goals as goal
+
+pub returns : goal.returns
+returns c =
+    let told = c.after-next.ensures in
+    (told.0, (told.1 ∙ (rw c.forget.ensures), c.put_message.ensures))

@@ -1,0 +1,6 @@
+-- `rules::marks_wrong` meets its contract. Assumes nothing.
+use Rattle.rules.proofs.Laws.{marks_read}
+use Rattle.rules.proofs.marks_wrong.Goals as goal
+
+pub returns : goal.returns
+returns c = marks_read c.args.marks _ _ _ c.shows.ensures c.shows-2.ensures c.shows-3.ensures
