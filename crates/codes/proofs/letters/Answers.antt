@@ -15,14 +15,14 @@ returns-then-not-c-digits c =
     let args = c.args in
     let loop = c.loop-i in
     let f = has (cond args.digits upper_or_digit upper) args.s.now in
-    sym (every_fails f args.to loop.i c.loop-i-test.true (sym (letter args.digits _) ∙ not-true _ c.if-not-c-digits.true-raw)) ∙ loop.invariant
+    sym (every_fails f args.to loop.i c.loop-i-test.true (sym (letter args.digits _) ∙ c.if-not-c-digits.true)) ∙ loop.invariant
 
 pub loop-i-preserved : goal.loop-i-preserved
 loop-i-preserved c =
     let args = c.args in
     let loop = c.loop-i in
     let f = has (cond args.digits upper_or_digit upper) args.s.now in
-    every_more f args.to loop.i c.loop-i-test.true (sym (letter args.digits _) ∙ not-false _ c.if-not-c-digits.false-raw) ∙ loop.invariant
+    every_more f args.to loop.i c.loop-i-test.true (sym (letter args.digits _) ∙ c.if-not-c-digits.false) ∙ loop.invariant
 
 pub returns : goal.returns
 returns c =

@@ -4,7 +4,7 @@ use borrow.Author.Tests.{not-true, not-false}
 use Rattle.elements.proofs.currency.Goals as goal
 
 pub returns-then-not-is_amount : goal.returns-then-not-is_amount
-returns-then-not-is_amount c = rw (sym c.is_amount.ensures ∙ not-true _ c.if-not-is_amount.true-raw)
+returns-then-not-is_amount c = rw (sym c.is_amount.ensures ∙ c.if-not-is_amount.true)
 
 pub returns : goal.returns
-returns c = rw (sym c.is_amount.ensures ∙ not-false _ c.if-not-is_amount.false-raw, c.in_euros.ensures)
+returns c = rw (sym c.is_amount.ensures ∙ c.if-not-is_amount.false, c.in_euros.ensures)

@@ -6,19 +6,19 @@ use Rattle.judging.proofs.build_index.Goals as goal
 pub returns-then-not-well_formed : goal.returns-then-not-well_formed
 returns-then-not-well_formed c =
     let a = c.args in
-    unformed_told a.register.now a.index.now _ c.well_formed-2.ensures (not-true _ c.if-not-well_formed.true-raw)
+    unformed_told a.register.now a.index.now _ c.well_formed-2.ensures (c.if-not-well_formed.true)
 
 pub returns-then-index-length_for : goal.returns-then-index-length_for
 returns-then-index-length_for c =
     let a = c.args in
-    other_length_told a.register.now a.index.now _ _ c.well_formed-2.ensures (not-false _ c.if-not-well_formed.false-raw) c.length_for.ensures c.if-index-length_for.true
+    other_length_told a.register.now a.index.now _ _ c.well_formed-2.ensures (c.if-not-well_formed.false) c.length_for.ensures c.if-index-length_for.true
 
 pub build-requires : goal.build-requires
 build-requires c =
     let a = c.args in
-    build_ready a.register.now a.index.now _ _ c.well_formed-2.ensures (not-false _ c.if-not-well_formed.false-raw) c.length_for.ensures c.if-index-length_for.false
+    build_ready a.register.now a.index.now _ _ c.well_formed-2.ensures (c.if-not-well_formed.false) c.length_for.ensures c.if-index-length_for.false
 
 pub returns : goal.returns
 returns c =
     let a = c.args in
-    built_told a.register.now a.index.now _ _ c.well_formed-2.ensures (not-false _ c.if-not-well_formed.false-raw) c.length_for.ensures c.if-index-length_for.false _ c.build.ensures
+    built_told a.register.now a.index.now _ _ c.well_formed-2.ensures (c.if-not-well_formed.false) c.length_for.ensures c.if-index-length_for.false _ c.build.ensures

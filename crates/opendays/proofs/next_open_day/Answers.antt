@@ -11,10 +11,10 @@ use Rattle.opendays.proofs.Laws.{next_told, next_none, next_no_date}
 use Rattle.opendays.proofs.next_open_day.Goals as goal
 
 pub returns-then-not-is_date : goal.returns-then-not-is_date
-returns-then-not-is_date c = next_no_date _ (sym c.is_date.ensures ∙ not-true _ c.if-not-is_date.true-raw)
+returns-then-not-is_date c = next_no_date _ (sym c.is_date.ensures ∙ c.if-not-is_date.true)
 
 pub loop-day-init : goal.loop-day-init
-loop-day-init c = (sym c.is_date.ensures ∙ not-false _ c.if-not-is_date.false-raw, refl)
+loop-day-init c = (sym c.is_date.ensures ∙ c.if-not-is_date.false, refl)
 
 pub day_after-day-requires : goal.day_after-day-requires
 day_after-day-requires c = c.loop-day.invariant.0
@@ -24,7 +24,7 @@ returns-then-is_open c =
     let inv = c.loop-day.invariant in
     let same = c.day_after-day.ensures in
     let opens = sym (ap open_day same) ∙ sym c.is_open.ensures ∙ c.if-is_open.true in
-    rw same (next_told _ _ (sym c.is_date.ensures ∙ not-false _ c.if-not-is_date.false-raw)
+    rw same (next_told _ _ (sym c.is_date.ensures ∙ c.if-not-is_date.false)
     (sym inv.1 ∙ next_open _ inv.0 c.loop-day-test.true opens))
 
 pub loop-day-smaller : goal.loop-day-smaller
@@ -42,4 +42,4 @@ loop-day-preserved c =
 pub returns : goal.returns
 returns c =
     let inv = c.loop-day.invariant in
-    next_none _ (sym c.is_date.ensures ∙ not-false _ c.if-not-is_date.false-raw) (sym inv.1 ∙ next_ends _ c.loop-day-test.false)
+    next_none _ (sym c.is_date.ensures ∙ c.if-not-is_date.false) (sym inv.1 ∙ next_ends _ c.loop-day-test.false)

@@ -8,7 +8,7 @@ pub returns-then-is_negative : goal.returns-then-is_negative
 returns-then-is_negative c =
     let bits = c.args.bits in
     let high = ltb-false bits (2 ^ 63) (not-true (ltb bits (2 ^ 63)) (sym c.is_negative.ensures ∙ c.if-is_negative.true)) in
-    magnitude_wrapped bits _ high (omega (arith, c.before.before.before.well_formed_lem)) (search rules) c.wrapping_sub_u64.ensures.value
+    magnitude_wrapped bits _ high (omega (arith, c.well_formed)) (search rules) c.wrapping_sub_u64.ensures.value
 
 pub returns-else-is_negative : goal.returns-else-is_negative
 returns-else-is_negative c =

@@ -13,13 +13,13 @@ pub returns-then-not-has_room : goal.returns-then-not-has_room
 returns-then-not-has_room c =
     let args = c.args in
     let loop = c.loop-i in
-    sym (every_fails (has_room args.positions.now args.cents) _ loop.i c.loop-i-test.true (sym c.has_room.ensures ∙ not-true _ c.if-not-has_room.true-raw)) ∙ loop.invariant.1
+    sym (every_fails (has_room args.positions.now args.cents) _ loop.i c.loop-i-test.true (sym c.has_room.ensures ∙ c.if-not-has_room.true)) ∙ loop.invariant.1
 
 pub loop-i-preserved : goal.loop-i-preserved
 loop-i-preserved c =
     let args = c.args in
     let loop = c.loop-i in
-    (search rules, every_more (has_room args.positions.now args.cents) _ loop.i c.loop-i-test.true (sym c.has_room.ensures ∙ not-false _ c.if-not-has_room.false-raw) ∙ loop.invariant.1)
+    (search rules, every_more (has_room args.positions.now args.cents) _ loop.i c.loop-i-test.true (sym c.has_room.ensures ∙ c.if-not-has_room.false) ∙ loop.invariant.1)
 
 pub returns : goal.returns
 returns c =

@@ -13,13 +13,13 @@ pub returns-then-not-is_digit : goal.returns-then-not-is_digit
 returns-then-not-is_digit c =
     let args = c.args in
     let loop = c.loop-i in
-    run_stops digit args.s.now loop.i (search rules) (sym c.is_digit.ensures ∙ not-true _ c.if-not-is_digit.true-raw) ∙ loop.invariant
+    run_stops digit args.s.now loop.i (search rules) (sym c.is_digit.ensures ∙ c.if-not-is_digit.true) ∙ loop.invariant
 
 pub loop-i-preserved : goal.loop-i-preserved
 loop-i-preserved c =
     let args = c.args in
     let loop = c.loop-i in
-    run_on digit args.s.now loop.i (search rules) (sym c.is_digit.ensures ∙ not-false _ c.if-not-is_digit.false-raw) ∙ loop.invariant
+    run_on digit args.s.now loop.i (search rules) (sym c.is_digit.ensures ∙ c.if-not-is_digit.false) ∙ loop.invariant
 
 pub returns : goal.returns
 returns c = run_ends digit _ _ c.loop-i-test.false ∙ c.loop-i.invariant

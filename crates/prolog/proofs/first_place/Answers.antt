@@ -13,12 +13,12 @@ returns-then-not-stands_at c =
     let after_mark_lem = c.after_mark-from in
     let args = c.args in
     ap To c.space_end.ensures
-    ∙ sym (prolog_plain args.s.now after_mark_lem.result after_mark_lem.ensures (sym c.stands_at.ensures ∙ not-true _ c.if-not-stands_at.true-raw))
+    ∙ sym (prolog_plain args.s.now after_mark_lem.result after_mark_lem.ensures (sym c.stands_at.ensures ∙ c.if-not-stands_at.true))
 
 pub overflow_add-from : goal.overflow_add-from
 overflow_add-from c =
     let args = c.args in
-    omega (arith, stands_there args.s.now c.after_mark-from.result (text "<?xml") (sym c.stands_at.ensures ∙ not-false _ c.if-not-stands_at.false-raw) (omega arith))
+    omega (arith, stands_there args.s.now c.after_mark-from.result (text "<?xml") (sym c.stands_at.ensures ∙ c.if-not-stands_at.false) (omega arith))
 
 pub returns-in-To : goal.returns-in-To
 returns-in-To c =
@@ -27,7 +27,7 @@ returns-in-To c =
     let n = c.n-1 in
     ap To c.space_end-in-To.ensures
     ∙ sym
-    (prolog_declared args.s.now after_mark_lem.result after_mark_lem.ensures (sym c.stands_at.ensures ∙ not-false _ c.if-not-stands_at.false-raw)
+    (prolog_declared args.s.now after_mark_lem.result after_mark_lem.ensures (sym c.stands_at.ensures ∙ c.if-not-stands_at.false)
     (To n.given.0.0) (sym c.declaration.ensures ∙ n.given.1))
 
 pub returns-in-Broken : goal.returns-in-Broken
@@ -36,5 +36,5 @@ returns-in-Broken c =
     let args = c.args in
     let p = c.p-1 in
     sym
-    (prolog_declared args.s.now after_mark_lem.result after_mark_lem.ensures (sym c.stands_at.ensures ∙ not-false _ c.if-not-stands_at.false-raw)
+    (prolog_declared args.s.now after_mark_lem.result after_mark_lem.ensures (sym c.stands_at.ensures ∙ c.if-not-stands_at.false)
     (Broken p.given.0.0) (sym c.declaration.ensures ∙ p.given.1))

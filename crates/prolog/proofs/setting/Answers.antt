@@ -9,7 +9,7 @@ pub returns-then-not-is_space : goal.returns-then-not-is_space
 returns-then-not-is_space c =
     let args = c.args in
     let byte_at = c.byte_at in
-    setting_none args.k args.s.now args.at byte_at.result byte_at.ensures (sym c.is_space.ensures ∙ not-true _ c.if-not-is_space.true-raw)
+    setting_none args.k args.s.now args.at byte_at.result byte_at.ensures (sym c.is_space.ensures ∙ c.if-not-is_space.true)
 
 pub returns-in-To : goal.returns-in-To
 returns-in-To c =
@@ -19,7 +19,7 @@ returns-in-To c =
     let space_end_lem = c.space_end in
     c.equated.ensures
     ∙ sym
-    (setting_named args.k args.s.now args.at byte_at.result byte_at.ensures (sym c.is_space.ensures ∙ not-false _ c.if-not-is_space.false-raw) space_end_lem.result space_end_lem.ensures
+    (setting_named args.k args.s.now args.at byte_at.result byte_at.ensures (sym c.is_space.ensures ∙ c.if-not-is_space.false) space_end_lem.result space_end_lem.ensures
     (To n.given.0.0) (sym c.name.ensures ∙ n.given.1))
 
 pub returns-in-Broken : goal.returns-in-Broken
@@ -29,5 +29,5 @@ returns-in-Broken c =
     let p = c.p-1 in
     let space_end_lem = c.space_end in
     sym
-    (setting_named args.k args.s.now args.at byte_at.result byte_at.ensures (sym c.is_space.ensures ∙ not-false _ c.if-not-is_space.false-raw) space_end_lem.result space_end_lem.ensures
+    (setting_named args.k args.s.now args.at byte_at.result byte_at.ensures (sym c.is_space.ensures ∙ c.if-not-is_space.false) space_end_lem.result space_end_lem.ensures
     (Broken p.given.0.0) (sym c.name.ensures ∙ p.given.1))

@@ -12,12 +12,12 @@ loop-i-init c = refl
 pub returns-then-not-is_plain : goal.returns-then-not-is_plain
 returns-then-not-is_plain c =
     let loop = c.loop-i in
-    run_stops plain c.args.s.now loop.i (search rules) (sym c.is_plain.ensures ∙ not-true _ c.if-not-is_plain.true-raw) ∙ loop.invariant
+    run_stops plain c.args.s.now loop.i (search rules) (sym c.is_plain.ensures ∙ c.if-not-is_plain.true) ∙ loop.invariant
 
 pub loop-i-preserved : goal.loop-i-preserved
 loop-i-preserved c =
     let loop = c.loop-i in
-    run_on plain c.args.s.now loop.i (search rules) (sym c.is_plain.ensures ∙ not-false _ c.if-not-is_plain.false-raw) ∙ loop.invariant
+    run_on plain c.args.s.now loop.i (search rules) (sym c.is_plain.ensures ∙ c.if-not-is_plain.false) ∙ loop.invariant
 
 pub returns : goal.returns
 returns c = run_ends plain _ _ c.loop-i-test.false ∙ c.loop-i.invariant

@@ -12,12 +12,12 @@ loop-i-init c = refl
 pub returns-then-not-is_straight : goal.returns-then-not-is_straight
 returns-then-not-is_straight c =
     let loop = c.loop-i in
-    run_stops straight c.args.s.now loop.i (search rules) (sym c.is_straight.ensures ∙ not-true _ c.if-not-is_straight.true-raw) ∙ loop.invariant
+    run_stops straight c.args.s.now loop.i (search rules) (sym c.is_straight.ensures ∙ c.if-not-is_straight.true) ∙ loop.invariant
 
 pub loop-i-preserved : goal.loop-i-preserved
 loop-i-preserved c =
     let loop = c.loop-i in
-    run_on straight c.args.s.now loop.i (search rules) (sym c.is_straight.ensures ∙ not-false _ c.if-not-is_straight.false-raw) ∙ loop.invariant
+    run_on straight c.args.s.now loop.i (search rules) (sym c.is_straight.ensures ∙ c.if-not-is_straight.false) ∙ loop.invariant
 
 pub returns : goal.returns
 returns c = run_ends straight _ _ c.loop-i-test.false ∙ c.loop-i.invariant

@@ -10,25 +10,25 @@ pub returns-then-not-starts_section : goal.returns-then-not-starts_section
 unfolding text_turn
 returns-then-not-starts_section c =
     let byte = c.byte_at-b in
-    rw (← byte.ensures, eq-eqb byte.result 60 c.if-b-eq60.true, sym c.starts_section.ensures ∙ not-true _ c.if-not-starts_section.true-raw)
+    rw (← byte.ensures, eq-eqb byte.result 60 c.if-b-eq60.true, sym c.starts_section.ensures ∙ c.if-not-starts_section.true)
 
 pub overflow_add-at : goal.overflow_add-at
 overflow_add-at c =
     let args = c.args in
-    omega (arith, stands_there args.s.now args.at section_start (sym c.starts_section.ensures ∙ not-false _ c.if-not-starts_section.false-raw) (omega arith))
+    omega (arith, stands_there args.s.now args.at section_start (sym c.starts_section.ensures ∙ c.if-not-starts_section.false) (omega arith))
 
 pub returns-in-To : goal.returns-in-To
 unfolding text_turn
 returns-in-To c =
     let byte = c.byte_at-b in
-    let starts = sym c.starts_section.ensures ∙ not-false _ c.if-not-starts_section.false-raw in
+    let starts = sym c.starts_section.ensures ∙ c.if-not-starts_section.false in
     rw (← byte.ensures, eq-eqb byte.result 60 c.if-b-eq60.true, starts, ← c.section_end.ensures, c.in-To.is)
 
 pub returns-in-Broken : goal.returns-in-Broken
 unfolding text_turn
 returns-in-Broken c =
     let byte = c.byte_at-b in
-    let starts = sym c.starts_section.ensures ∙ not-false _ c.if-not-starts_section.false-raw in
+    let starts = sym c.starts_section.ensures ∙ c.if-not-starts_section.false in
     rw (← byte.ensures, eq-eqb byte.result 60 c.if-b-eq60.true, starts, ← c.section_end.ensures, c.in-Broken.is)
 
 pub returns-then-b-eq38 : goal.returns-then-b-eq38

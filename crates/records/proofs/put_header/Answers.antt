@@ -14,7 +14,7 @@ returns-then-d-at c =
 
 pub overflow_add-at-6 : goal.overflow_add-at-6
 overflow_add-at-6 c =
-    omega (arith, c.if-d-at.false, c.before.before.before.before.before.before.before.before.before.before.before.before.before.before.before.before.before.before.before.before.before.before.before.before.before.before.before.before.before.before.well_formed_lem)
+    omega (arith, c.if-d-at.false, c.well_formed)
 
 pub returns : goal.returns
 returns c =

@@ -13,7 +13,7 @@ unfolding holds_given
 returns-then-not-well_formed c = stops _ Register _ refl (not_good _ true _ c.well_formed-2.ensures.is c.if-not-well_formed.true-raw)
 
 pub from_index_length-requires : goal.from_index_length-requires
-from_index_length-requires c = c.well_formed-2.ensures.formed (not-false _ c.if-not-well_formed.false-raw)
+from_index_length-requires c = c.well_formed-2.ensures.formed (c.if-not-well_formed.false)
 
 pub returns : goal.returns
 unfolding holds_given

@@ -6,7 +6,7 @@ use Rattle.register.proofs.has_key.Goals as goal
 pub returns-then-not-has_word : goal.returns-then-not-has_word
 returns-then-not-has_word c =
     let args = c.args in
-    word_differs args.register.now args.key.now args.k _ args.place 8 c.has_word.ensures (not-true _ c.if-not-has_word.true-raw)
+    word_differs args.register.now args.key.now args.k _ args.place 8 c.has_word.ensures (c.if-not-has_word.true)
 
 pub returns : goal.returns
 returns c =

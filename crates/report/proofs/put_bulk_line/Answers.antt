@@ -9,5 +9,5 @@ use Rattle.report.proofs.put_bulk_line.Goals as goal
 pub returns : goal.returns
 returns c =
     let tally = c.args.tally in
-    let fits : tally.accepted.cents.1 < 2 ^ 64 = omega (arith, c.before.before.before.before.before.before.before.before.before.before.before.before.before.before.before.before.before.before.before.before.before.before.before.before.well_formed_lem) in
+    let fits : tally.accepted.cents.1 < 2 ^ 64 = omega (arith, c.well_formed) in
     bulk_written c.args.out.now c.args.at c.args.identifier.now c.args.outcome c.args.faults c.requires.1 (totals_of tally) tally.accepted.cents.0 tally.accepted.cents.1 fits refl _ _ _ _ _ c.put_head.ensures c.put_number.ensures c.put_number-2.ensures c.put_number-3.ensures c.put_halves.ensures

@@ -15,14 +15,14 @@ pub returns-then-not-known_kind : goal.returns-then-not-known_kind
 returns-then-not-known_kind c =
     let table = c.args.table.now in
     let loop = c.loop-i in
-    let here : known_kind (kind_at table loop.i) ≡ false = ap known_kind (sym c.kind_at.ensures) ∙ sym c.known_kind.ensures ∙ not-true _ c.if-not-known_kind.true-raw in
+    let here : known_kind (kind_at table loop.i) ≡ false = ap known_kind (sym c.kind_at.ensures) ∙ sym c.known_kind.ensures ∙ c.if-not-known_kind.true in
     sym (every_fails (λ k. known_kind (kind_at table k)) _ loop.i c.loop-i-test.true here) ∙ loop.invariant.1
 
 pub loop-i-preserved : goal.loop-i-preserved
 loop-i-preserved c =
     let table = c.args.table.now in
     let loop = c.loop-i in
-    let here : known_kind (kind_at table loop.i) ≡ true = ap known_kind (sym c.kind_at.ensures) ∙ sym c.known_kind.ensures ∙ not-false _ c.if-not-known_kind.false-raw in
+    let here : known_kind (kind_at table loop.i) ≡ true = ap known_kind (sym c.kind_at.ensures) ∙ sym c.known_kind.ensures ∙ c.if-not-known_kind.false in
     (search rules, every_more (λ k. known_kind (kind_at table k)) _ loop.i c.loop-i-test.true here ∙ loop.invariant.1)
 
 pub returns : goal.returns

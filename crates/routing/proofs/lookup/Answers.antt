@@ -10,17 +10,17 @@ use Rattle.routing.proofs.lookup.Goals as goal
 pub returns-then-not-is_date : goal.returns-then-not-is_date
 returns-then-not-is_date c =
     let args = c.args in
-    record { is = lookup_date args.date args.table.now args.bic.now (sym c.is_date.ensures ∙ not-true _ c.if-not-is_date.true-raw); within = tt; small = tt }
+    record { is = lookup_date args.date args.table.now args.bic.now (sym c.is_date.ensures ∙ c.if-not-is_date.true); within = tt; small = tt }
 
 pub returns-then-not-well_formed : goal.returns-then-not-well_formed
 returns-then-not-well_formed c =
     let args = c.args in
-    record { is = lookup_table args.date args.table.now args.bic.now (sym c.is_date.ensures ∙ not-false _ c.if-not-is_date.false-raw) (sym c.well_formed-2.ensures.is ∙ not-true _ c.if-not-well_formed.true-raw); within = tt; small = tt }
+    record { is = lookup_table args.date args.table.now args.bic.now (sym c.is_date.ensures ∙ c.if-not-is_date.false) (sym c.well_formed-2.ensures.is ∙ c.if-not-well_formed.true); within = tt; small = tt }
 
 pub returns-then-bic-ne-BIC_WIDTH : goal.returns-then-bic-ne-BIC_WIDTH
 returns-then-bic-ne-BIC_WIDTH c =
     let args = c.args in
-    record { is = lookup_bic args.date args.table.now args.bic.now (sym c.is_date.ensures ∙ not-false _ c.if-not-is_date.false-raw) (sym c.well_formed-2.ensures.is ∙ not-false _ c.if-not-well_formed.false-raw) c.if-bic-ne-BIC_WIDTH.true; within = tt; small = tt }
+    record { is = lookup_bic args.date args.table.now args.bic.now (sym c.is_date.ensures ∙ c.if-not-is_date.false) (sym c.well_formed-2.ensures.is ∙ c.if-not-well_formed.false) c.if-bic-ne-BIC_WIDTH.true; within = tt; small = tt }
 
 pub returns-in-Row : goal.returns-in-Row
 returns-in-Row c =
@@ -30,10 +30,10 @@ returns-in-Row c =
     record {
       is = ap (row_is given.0.0) (c.reachable-reached.ensures ∙ ap (λ (f : Found). reachable args.table.now (option_of f)) given.1)
           ∙ lookup_row args.date args.table.now args.bic.now
-          (sym c.is_date.ensures ∙ not-false _ c.if-not-is_date.false-raw) (sym c.well_formed-2.ensures.is ∙ not-false _ c.if-not-well_formed.false-raw)
+          (sym c.is_date.ensures ∙ c.if-not-is_date.false) (sym c.well_formed-2.ensures.is ∙ c.if-not-well_formed.false)
           c.if-bic-ne-BIC_WIDTH.false _ (ap option_of (sym given.1) ∙ c.route-found.ensures.is);
       within = below;
-      small = lt_of_lt_of_le below (c.well_formed-2.ensures.formed (not-false _ c.if-not-well_formed.false-raw)).few;
+      small = lt_of_lt_of_le below (c.well_formed-2.ensures.formed (c.if-not-well_formed.false)).few;
     }
 
 pub returns-in-Nothing : goal.returns-in-Nothing
@@ -41,7 +41,7 @@ returns-in-Nothing c =
     let args = c.args in
     record {
       is = lookup_row args.date args.table.now args.bic.now
-          (sym c.is_date.ensures ∙ not-false _ c.if-not-is_date.false-raw) (sym c.well_formed-2.ensures.is ∙ not-false _ c.if-not-well_formed.false-raw)
+          (sym c.is_date.ensures ∙ c.if-not-is_date.false) (sym c.well_formed-2.ensures.is ∙ c.if-not-well_formed.false)
           c.if-bic-ne-BIC_WIDTH.false _ (ap option_of (sym c.in-Nothing.is) ∙ c.route-found.ensures.is);
       within = tt;
       small = tt;

@@ -16,14 +16,14 @@ pub returns-then-not-kind : goal.returns-then-not-kind
 returns-then-not-kind c =
     let loop = c.loop-k in
     let step = known_step c.args.s.now c.args.n loop.k loop.at c.loop-k-test.true in
-    let here : known_kind (get_or c.args.s.now loop.at 0) ≡ false = not-true _ c.if-not-kind.true-raw in
+    let here : known_kind (get_or c.args.s.now loop.at 0) ≡ false = c.if-not-kind.true in
     sym (step ∙ (rw here)) ∙ loop.invariant.2
 
 pub loop-k-preserved : goal.loop-k-preserved
 loop-k-preserved c =
     let loop = c.loop-k in
     let step = known_step c.args.s.now c.args.n loop.k loop.at c.loop-k-test.true in
-    let here : known_kind (get_or c.args.s.now loop.at 0) ≡ true = not-false _ c.if-not-kind.false-raw in
+    let here : known_kind (get_or c.args.s.now loop.at 0) ≡ true = c.if-not-kind.false in
     (search rules, search rules, sym (step ∙ (rw here)) ∙ loop.invariant.2)
 
 pub returns : goal.returns

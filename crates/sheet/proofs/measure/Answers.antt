@@ -9,17 +9,6 @@ use Rattle.sheet.specs.Sheet.{count_width, header_width, count_at, bulk_count, f
 use Rattle.sheet.proofs.Laws.{kind_read, messages_many, end_step, messages_step, messages_end, walk_past, walk_left_over, walk_ended}
 use Rattle.sheet.proofs.measure.Goals as goal
 
--- After k of the bulks: what is left of the walk comes to the whole of it. Headers stand before sections, so that the next one lies
--- in the sheet where its section begins there. Messages take more than a byte each, so that their number fits wherever the place does.
-record Walked (s : List ℕ) (bulks head at messages k : ℕ) : Type 0 where
-  stated : bulks ≡ bulk_count s
-  turn : k ≤ bulks
-  header : head ≡ count_width + header_width * k
-  before : count_width + header_width * bulks ≤ at
-  few : messages ≤ at
-  ends : end_from s (bulks - k) head at ≡ end_from s (bulk_count s) count_width (first_section s)
-  holds : messages + messages_from s (bulks - k) head at ≡ message_count s
-
 pub loop-k-init : goal.loop-k-init
 loop-k-init c =
     let told = c.u32_at-count.ensures in

@@ -8,11 +8,11 @@ use Rattle.slots.proofs.add.Goals as goal
 pub returns-then-not-names : goal.returns-then-not-names
 returns-then-not-names c =
     let args = c.args in
-    let new = sym c.names.ensures ∙ not-true _ c.if-not-names.true-raw in
+    let new = sym c.names.ensures ∙ c.if-not-names.true in
     c.put_number.ensures ∙ added_new (end_of args.ended) args.k args.index.now new
 
 pub returns-else-not-names : goal.returns-else-not-names
 returns-else-not-names c =
     let args = c.args in
-    let found = sym c.names.ensures ∙ not-false _ c.if-not-names.false-raw in
+    let found = sym c.names.ensures ∙ c.if-not-names.false in
     added_not (end_of args.ended) args.k args.index.now found

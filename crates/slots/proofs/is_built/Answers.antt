@@ -52,13 +52,13 @@ returns-then-not-names c =
     checking_fails args.layout args.records.now args.index.now args.m loop.count loop.k loop.invariant.0 _ c.search_from-ended.result
     c.key_in-key.ensures c.search_from-ended.ensures c.loop-k-test.true
     (λ i. omega (arith, c.type_inv.index i)) c.requires.1
-    (sym c.names.ensures ∙ not-true _ c.if-not-names.true-raw)
+    (sym c.names.ensures ∙ c.if-not-names.true)
 
 pub loop-k-preserved : goal.loop-k-preserved
 loop-k-preserved c =
     let args = c.args in
     let loop = c.loop-k in
-    let fits = sym c.names.ensures ∙ not-false _ c.if-not-names.false-raw in
+    let fits = sym c.names.ensures ∙ c.if-not-names.false in
     let counts = checking_counts args.layout args.records.now args.index.now args.m loop.count loop.k loop.invariant.0 _ c.search_from-ended.result
     c.key_in-key.ensures c.search_from-ended.ensures c.loop-k-test.true fits in
     let passes = checking_passes args.layout args.records.now args.index.now args.m loop.count loop.k loop.invariant.0 _ c.search_from-ended.result

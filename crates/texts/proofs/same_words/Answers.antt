@@ -13,26 +13,26 @@ use Rattle.texts.proofs.same_words.Goals as goal
 pub returns-then-not-same_eight : goal.returns-then-not-same_eight
 returns-then-not-same_eight c =
     let args = c.args in
-    part_differs args.a.now args.b.now (length args.a.now - 8) 8 (sym c.same_eight.ensures ∙ not-true _ c.if-not-same_eight.true-raw)
+    part_differs args.a.now args.b.now (length args.a.now - 8) 8 (sym c.same_eight.ensures ∙ c.if-not-same_eight.true)
 
 pub loop-end-init : goal.loop-end-init
 loop-end-init c =
     let args = c.args in
     let a = args.a.now in
     let b = args.b.now in
-    (search rules, piece_more a b (length a - 8) 8 (length a) refl (omega arith) (sym c.same_eight.ensures ∙ not-false _ c.if-not-same_eight.false-raw) (pieces_start a b (omega arith)))
+    (search rules, piece_more a b (length a - 8) 8 (length a) refl (omega arith) (sym c.same_eight.ensures ∙ c.if-not-same_eight.false) (pieces_start a b (omega arith)))
 
 pub returns-then-not-same_eight-2 : goal.returns-then-not-same_eight-2
 returns-then-not-same_eight-2 c =
     let args = c.args in
     let loop = c.loop-end in
-    part_differs args.a.now args.b.now (loop.end - 8) 8 (sym c.same_eight-in-loop-end.ensures ∙ not-true _ c.if-not-same_eight-2.true-raw)
+    part_differs args.a.now args.b.now (loop.end - 8) 8 (sym c.same_eight-in-loop-end.ensures ∙ c.if-not-same_eight-2.true)
 
 pub loop-end-preserved : goal.loop-end-preserved
 loop-end-preserved c =
     let args = c.args in
     let loop = c.loop-end in
-    (search rules, piece_more args.a.now args.b.now (loop.end - 8) 8 loop.end refl (omega arith) (sym c.same_eight-in-loop-end.ensures ∙ not-false _ c.if-not-same_eight-2.false-raw) loop.invariant.1)
+    (search rules, piece_more args.a.now args.b.now (loop.end - 8) 8 loop.end refl (omega arith) (sym c.same_eight-in-loop-end.ensures ∙ c.if-not-same_eight-2.false) loop.invariant.1)
 
 pub returns : goal.returns
 returns c =

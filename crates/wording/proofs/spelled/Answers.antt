@@ -11,7 +11,7 @@ pub returns-then-not-allowed : goal.returns-then-not-allowed
 returns-then-not-allowed c =
     let t = c.args.t.now in
     let loop = c.loop-i in
-    run_other t loop.i c.loop-i-test.true (sym c.allowed.ensures ∙ not-true _ c.if-not-allowed.true-raw) ∙ loop.invariant
+    run_other t loop.i c.loop-i-test.true (sym c.allowed.ensures ∙ c.if-not-allowed.true) ∙ loop.invariant
 
 pub returns-then-doubled : goal.returns-then-doubled
 returns-then-doubled c =
@@ -23,7 +23,7 @@ pub loop-i-preserved : goal.loop-i-preserved
 loop-i-preserved c =
     let t = c.args.t.now in
     let loop = c.loop-i in
-    let here = sym c.allowed.ensures ∙ not-false _ c.if-not-allowed.false-raw in
+    let here = sym c.allowed.ensures ∙ c.if-not-allowed.false in
     run_more t loop.i c.loop-i-test.true here (sym c.doubled.ensures ∙ c.if-doubled.false) ∙ loop.invariant
 
 pub returns : goal.returns

@@ -9,7 +9,7 @@ use Rattle.writing.proofs.put_halves.Goals as goal
 
 pub returns-then-at-d : goal.returns-then-at-d
 returns-then-at-d c =
-    let fits : c.args.low < 2 ^ 64 = omega (arith, c.before.before.before.before.before.before.before.before.before.before.well_formed_lem) in
+    let fits : c.args.low < 2 ^ 64 = omega (arith, c.well_formed) in
     rw (c.put_number-then-at-d.ensures, c.put_number.ensures)
     (halves_stored c.args.d.now c.args.at c.args.high c.args.low fits)
 

@@ -1,27 +1,27 @@
 -- `writing::put_number` meets its contract: what is left to store, over what is stored already, comes to the whole number.
 -- Assumes nothing.
 use mathlib.Core.Path.{sym, ◌∙◌}
-use mathlib.Core.Logic.{⊎_elim}
 use native.Mathlib.Omega.{arith}
 use lib.ListN.{length-set}
 use Rattle.wire.proofs.Stores.{number_last, number_last_out, number_ends}
 use Rattle.writing.proofs.put_number.Goals as goal
+use Rattle.writing.proofs.put_number.Goals.{then-i-room, else-i-room}
 
 pub loop-i-preserved : goal.loop-i-preserved
 loop-i-preserved c =
     let args = c.args in
     let loop = c.loop-i in
     let left = c.loop-i-test.true in
-    ⊎_elim
-    (λ w. (
-      simp (w.1, length-set) loop.invariant.0,
-      rw w.1 (number_last loop.d args.at loop.i loop.rest left ∙ loop.invariant.1),
-    ))
-    (λ w. (
-      rw w.1 loop.invariant.0,
-      rw w.1 (number_last_out loop.d args.at loop.i loop.rest left (omega arith) ∙ loop.invariant.1),
-    ))
-    c.if-i-room.branch
+    elim c.if-i-room.branch [
+      then-i-room w ↦ (
+        simp (w.d-is, length-set) loop.invariant.0,
+        rw w.d-is (number_last loop.d args.at loop.i loop.rest left ∙ loop.invariant.1),
+      )
+    | else-i-room w ↦ (
+        rw w.d-is loop.invariant.0,
+        rw w.d-is (number_last_out loop.d args.at loop.i loop.rest left (omega arith) ∙ loop.invariant.1),
+      )
+    ]
 
 pub returns : goal.returns
 returns c =

@@ -3,7 +3,7 @@ use borrow.Author.Tests.{not-true, not-false}
 use Rattle.elements.proofs.notes.warn.Goals as goal
 
 pub returns-then-not-lack : goal.returns-then-not-lack
-returns-then-not-lack c = rw (not-true c.args.lack c.if-not-lack.true-raw)
+returns-then-not-lack c = rw (c.if-not-lack.true)
 
 pub returns : goal.returns
-returns c = rw (not-false c.args.lack c.if-not-lack.false-raw, c.put_note.ensures, c.least-first.ensures, c.note_at.ensures)
+returns c = rw (c.if-not-lack.false, c.put_note.ensures, c.least-first.ensures, c.note_at.ensures)

@@ -37,7 +37,7 @@ bulk_faults-faults-requires c =
 pub lines_at-from-requires : goal.lines_at-from-requires
 lines_at-from-requires c =
     let a = c.args in
-    omega (arith, lent_within a.report.now a.section.number a.places c.requires.2 a.report.now refl, c.before.before.before.before.before.before.before.before.before.before.before.before.before.before.before.before.before.before.before.before.before.well_formed_lem)
+    omega (arith, lent_within a.report.now a.section.number a.places c.requires.2 a.report.now refl, c.well_formed)
 
 pub slice_bounds-judge_messages-count : goal.slice_bounds-judge_messages-count
 slice_bounds-judge_messages-count c =

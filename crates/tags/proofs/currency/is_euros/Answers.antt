@@ -14,7 +14,7 @@ use Rattle.tags.proofs.currency.is_euros.Goals as goal
 pub returns-then-not-same : goal.returns-then-not-same
 returns-then-not-same c =
     let args = c.args in
-    euros_other args.s.now args.at (sym (c.same.ensures ∙ ap (λ (t : List ℕ). same t (text "Ccy")) c.name_at.ensures) ∙ not-true _ c.if-not-same.true-raw)
+    euros_other args.s.now args.at (sym (c.same.ensures ∙ ap (λ (t : List ℕ). same t (text "Ccy")) c.name_at.ensures) ∙ c.if-not-same.true)
 
 pub returns-then-s-equals : goal.returns-then-s-equals
 returns-then-s-equals c =
@@ -42,4 +42,4 @@ returns c =
     let quote : space_end2.result ≡ quote_at s args.at = space_end2.ensures ∙ ap (λ (k : ℕ). space_end s (k + 1)) equals in
     c.spells_euros.ensures
     ∙ ap (λ (k : ℕ). spells (text "EUR") (byte_at s k) s (k + 1)) quote
-    ∙ euros_spelled s args.at (sym (c.same.ensures ∙ ap (λ (t : List ℕ). same t (text "Ccy")) c.name_at.ensures) ∙ not-false _ c.if-not-same.false-raw)
+    ∙ euros_spelled s args.at (sym (c.same.ensures ∙ ap (λ (t : List ℕ). same t (text "Ccy")) c.name_at.ensures) ∙ c.if-not-same.false)

@@ -12,15 +12,15 @@ use Rattle.tags.proofs.twice.turn.Goals as goal
 pub returns-then-not-is_space : goal.returns-then-not-is_space
 returns-then-not-is_space c =
     let args = c.args in
-    by_plain (among args.s.now args.places.now args.n) args.s.now args.at (ap is_space (sym c.byte_at.ensures) ∙ sym c.is_space.ensures ∙ not-true _ c.if-not-is_space.true-raw)
+    by_plain (among args.s.now args.places.now args.n) args.s.now args.at (ap is_space (sym c.byte_at.ensures) ∙ sym c.is_space.ensures ∙ c.if-not-is_space.true)
 
 pub returns-then-not-name_starts : goal.returns-then-not-name_starts
 returns-then-not-name_starts c =
     let args = c.args in
     let space_end_lem = c.space_end-k in
-    let spaced : is_space (byte_at args.s.now args.at) ≡ true = ap is_space (sym c.byte_at.ensures) ∙ sym c.is_space.ensures ∙ not-false _ c.if-not-is_space.false-raw in
+    let spaced : is_space (byte_at args.s.now args.at) ≡ true = ap is_space (sym c.byte_at.ensures) ∙ sym c.is_space.ensures ∙ c.if-not-is_space.false in
     by_ends (among args.s.now args.places.now args.n) args.s.now args.at spaced space_end_lem.result space_end_lem.ensures
-    (ap name_start (sym c.byte_at-2.ensures) ∙ sym c.name_starts.ensures ∙ not-true _ c.if-not-name_starts.true-raw)
+    (ap name_start (sym c.byte_at-2.ensures) ∙ sym c.name_starts.ensures ∙ c.if-not-name_starts.true)
 
 pub returns-then-held : goal.returns-then-held
 returns-then-held c =
@@ -28,8 +28,8 @@ returns-then-held c =
     let space_end_lem = c.space_end-k in
     let s = args.s.now in
     let k = space_end_lem.result in
-    let spaced : is_space (byte_at s args.at) ≡ true = ap is_space (sym c.byte_at.ensures) ∙ sym c.is_space.ensures ∙ not-false _ c.if-not-is_space.false-raw in
-    let begins : name_start (byte_at s k) ≡ true = ap name_start (sym c.byte_at-2.ensures) ∙ sym c.name_starts.ensures ∙ not-false _ c.if-not-name_starts.false-raw in
+    let spaced : is_space (byte_at s args.at) ≡ true = ap is_space (sym c.byte_at.ensures) ∙ sym c.is_space.ensures ∙ c.if-not-is_space.false in
+    let begins : name_start (byte_at s k) ≡ true = ap name_start (sym c.byte_at-2.ensures) ∙ sym c.name_starts.ensures ∙ c.if-not-name_starts.false in
     by_twice (among s args.places.now args.n) s args.at spaced k space_end_lem.ensures begins (sym c.held.ensures ∙ c.if-held.true)
 
 pub returns-in-To : goal.returns-in-To
@@ -38,8 +38,8 @@ returns-in-To c =
     let space_end_lem = c.space_end-k in
     let s = args.s.now in
     let k = space_end_lem.result in
-    let spaced : is_space (byte_at s args.at) ≡ true = ap is_space (sym c.byte_at.ensures) ∙ sym c.is_space.ensures ∙ not-false _ c.if-not-is_space.false-raw in
-    let begins : name_start (byte_at s k) ≡ true = ap name_start (sym c.byte_at-2.ensures) ∙ sym c.name_starts.ensures ∙ not-false _ c.if-not-name_starts.false-raw in
+    let spaced : is_space (byte_at s args.at) ≡ true = ap is_space (sym c.byte_at.ensures) ∙ sym c.is_space.ensures ∙ c.if-not-is_space.false in
+    let begins : name_start (byte_at s k) ≡ true = ap name_start (sym c.byte_at-2.ensures) ∙ sym c.name_starts.ensures ∙ c.if-not-name_starts.false in
     by_on (among s args.places.now args.n) s args.at spaced k space_end_lem.ensures begins (sym c.held.ensures ∙ c.if-held.false)
     (To c.in-To.m) (sym c.attribute.ensures ∙ c.in-To.is)
 
@@ -49,7 +49,7 @@ returns-in-Broken c =
     let space_end_lem = c.space_end-k in
     let s = args.s.now in
     let k = space_end_lem.result in
-    let spaced : is_space (byte_at s args.at) ≡ true = ap is_space (sym c.byte_at.ensures) ∙ sym c.is_space.ensures ∙ not-false _ c.if-not-is_space.false-raw in
-    let begins : name_start (byte_at s k) ≡ true = ap name_start (sym c.byte_at-2.ensures) ∙ sym c.name_starts.ensures ∙ not-false _ c.if-not-name_starts.false-raw in
+    let spaced : is_space (byte_at s args.at) ≡ true = ap is_space (sym c.byte_at.ensures) ∙ sym c.is_space.ensures ∙ c.if-not-is_space.false in
+    let begins : name_start (byte_at s k) ≡ true = ap name_start (sym c.byte_at-2.ensures) ∙ sym c.name_starts.ensures ∙ c.if-not-name_starts.false in
     by_on (among s args.places.now args.n) s args.at spaced k space_end_lem.ensures begins (sym c.held.ensures ∙ c.if-held.false)
     (Broken c.in-Broken.p) (sym c.attribute.ensures ∙ c.in-Broken.is)
