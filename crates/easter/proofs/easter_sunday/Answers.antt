@@ -10,5 +10,5 @@ pub returns : goal.returns
 unfolding easter_computes
 returns c =
     -- the constant as it lies before it is read: the table itself, so that it is not written here again
-    let table = ? in
+    let table = (lts.m8 reads.Pre reads.Post c.before.before c.result-1.given).1.1.0.now in
     by_rule table c.args.y refl refl c.requires.not_before c.requires.not_after

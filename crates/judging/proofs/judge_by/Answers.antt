@@ -12,18 +12,17 @@ make-requires c =
     let a = c.args in
     let call = call_of a.terms a.sheet.now a.table.now a.register.now a.positions.now a.report.now in
     let check = c.check-checked in
-    let given = c.checked-in-Fine-1.given in
-    record { formed = table_formed a.indexed call a.index.now check.result given.0.0 given.1 check.ensures; empty = refl }
+    record { formed = table_formed a.indexed call a.index.now check.result c.in-Fine.contents c.in-Fine.is check.ensures; empty = refl }
 
 pub judge_bulks-slots-requires : goal.judge_bulks-slots-requires
 judge_bulks-slots-requires c =
     let a = c.args in
     let call = call_of a.terms a.sheet.now a.table.now a.register.now a.positions.now a.report.now in
     let check = c.check-checked in
-    let given = c.checked-in-Fine-1.given in (
-      bulks_ready a.indexed call a.index.now check.result given.0.0 given.1 check.ensures _ c.put_count.auto.out,
-      entries_ready a.indexed call a.index.now check.result given.0.0 given.1 check.ensures,
-      record { formed = table_formed a.indexed call a.index.now check.result given.0.0 given.1 check.ensures; is = c.make.ensures },
+    (
+      bulks_ready a.indexed call a.index.now check.result c.in-Fine.contents c.in-Fine.is check.ensures _ c.put_count.auto.out,
+      entries_ready a.indexed call a.index.now check.result c.in-Fine.contents c.in-Fine.is check.ensures,
+      record { formed = table_formed a.indexed call a.index.now check.result c.in-Fine.contents c.in-Fine.is check.ensures; is = c.make.ensures },
     )
 
 pub space_for-length-requires : goal.space_for-length-requires
@@ -31,8 +30,7 @@ space_for-length-requires c =
     let a = c.args in
     let call = call_of a.terms a.sheet.now a.table.now a.register.now a.positions.now a.report.now in
     let check = c.check-checked in
-    let given = c.checked-in-Fine-1.given in
-    both_few a.indexed call a.index.now check.result given.0.0 given.1 check.ensures
+    both_few a.indexed call a.index.now check.result c.in-Fine.contents c.in-Fine.is check.ensures
 
 pub returns-in-Stopped : goal.returns-in-Stopped
 returns-in-Stopped c =
@@ -45,5 +43,4 @@ returns-in-Fine c =
     let a = c.args in
     let call = call_of a.terms a.sheet.now a.table.now a.register.now a.positions.now a.report.now in
     let check = c.check-checked in
-    let given = c.checked-in-Fine-1.given in
-    judged_told a.indexed call a.index.now check.result given.0.0 given.1 check.ensures _ _ _ _ _ _ c.put_count.ensures c.judge_bulks-slots.ensures _ c.space_for-length.ensures
+    judged_told a.indexed call a.index.now check.result c.in-Fine.contents c.in-Fine.is check.ensures _ _ _ _ _ _ c.put_count.ensures c.judge_bulks-slots.ensures _ c.space_for-length.ensures

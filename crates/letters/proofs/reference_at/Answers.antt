@@ -6,24 +6,36 @@ use Rattle.letters.specs.References.{reference_at}
 use Rattle.letters.proofs.References.{stands_there}
 use Rattle.letters.proofs.reference_at.Goals as goal
 
+pub overflow_add-result : goal.overflow_add-result
+overflow_add-result c = omega (arith, stands_there c.args.s.now c.args.at (text "&lt;") (sym c.stands_at.ensures ∙ c.if-stands_at.true) (omega arith))
+
 pub returns-then-stands_at : goal.returns-then-stands_at
 unfolding reference_at
 returns-then-stands_at c = rw (sym c.stands_at.ensures ∙ c.if-stands_at.true)
+
+pub overflow_add-result-then-stands_at-2 : goal.overflow_add-result-then-stands_at-2
+overflow_add-result-then-stands_at-2 c = omega (arith, stands_there c.args.s.now c.args.at (text "&gt;") (sym c.stands_at-2.ensures ∙ c.if-stands_at-2.true) (omega arith))
 
 pub returns-then-stands_at-2 : goal.returns-then-stands_at-2
 unfolding reference_at
 returns-then-stands_at-2 c = rw (sym c.stands_at.ensures ∙ c.if-stands_at.false, sym c.stands_at-2.ensures ∙ c.if-stands_at-2.true)
 
 pub overflow_add-result-then-stands_at-3 : goal.overflow_add-result-then-stands_at-3
-overflow_add-result-then-stands_at-3 c = omega (arith, stands_there c.args.s.now c.args.at (text "&gt;") (sym c.stands_at-2.ensures ∙ c.if-stands_at-2.true) (omega arith))
+overflow_add-result-then-stands_at-3 c = omega (arith, stands_there c.args.s.now c.args.at (text "&amp;") (sym c.stands_at-3.ensures ∙ c.if-stands_at-3.true) (omega arith))
 
 pub returns-then-stands_at-3 : goal.returns-then-stands_at-3
 unfolding reference_at
 returns-then-stands_at-3 c = rw (sym c.stands_at.ensures ∙ c.if-stands_at.false, sym c.stands_at-2.ensures ∙ c.if-stands_at-2.false, sym c.stands_at-3.ensures ∙ c.if-stands_at-3.true)
 
+pub overflow_add-result-then-stands_at-4 : goal.overflow_add-result-then-stands_at-4
+overflow_add-result-then-stands_at-4 c = omega (arith, stands_there c.args.s.now c.args.at (text "&apos;") (sym c.stands_at-4.ensures ∙ c.if-stands_at-4.true) (omega arith))
+
 pub returns-then-stands_at-4 : goal.returns-then-stands_at-4
 unfolding reference_at
 returns-then-stands_at-4 c = rw (sym c.stands_at.ensures ∙ c.if-stands_at.false, sym c.stands_at-2.ensures ∙ c.if-stands_at-2.false, sym c.stands_at-3.ensures ∙ c.if-stands_at-3.false, sym c.stands_at-4.ensures ∙ c.if-stands_at-4.true)
+
+pub overflow_add-result-then-stands_at-5 : goal.overflow_add-result-then-stands_at-5
+overflow_add-result-then-stands_at-5 c = omega (arith, stands_there c.args.s.now c.args.at (text "&quot;") (sym c.stands_at-5.ensures ∙ c.if-stands_at-5.true) (omega arith))
 
 pub returns-then-stands_at-5 : goal.returns-then-stands_at-5
 unfolding reference_at

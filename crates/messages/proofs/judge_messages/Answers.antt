@@ -64,7 +64,7 @@ loop-j-preserved c =
     let word = amount_word a.ruling.header.kind a.sheet.now l.cursor.at _ (λ i. (c.type_inv.sheet i).fits) read.amount in
     messages_turn a.terms a.table.now (header_in a.sheet.now a.ruling.header) a.ruling.fallen a.indexed a.ruling.header.kind a.sheet.now a.section.at a.section.number (state_of a.register.now a.positions.now) a.index.now a.out.now l.register l.index l.positions l.out (totals_of l.tally) l.slots l.cursor.at l.j l.invariant c.requires.1 c.loop-j-test.true _ _ _ _ _
     (rw (read.place, read.kind, c.line_place-to.ensures) at judged.ensures)
-    judged.auto.1.1.1.1.1.0 judged.auto.1.1.1.1.1.1.0 judged.auto.1.1.1.1.1.1.1.0 judged.auto.1.1.1.1.1.1.1.1.0 _ read.amount word _ c.count_message-tally.ensures _ refl _ read.moved
+    judged.auto.register judged.auto.index judged.auto.positions judged.auto.out _ read.amount word _ c.count_message-tally.ensures _ refl _ read.moved
 
 pub shape_of-register : goal.shape_of-register
 shape_of-register c = c.loop-j.invariant.register_wide

@@ -8,37 +8,29 @@ use Rattle.prolog.proofs.declaration.Goals as goal
 
 pub returns-in-To-maybe_setting-2 : goal.returns-in-To-maybe_setting-2
 returns-in-To-maybe_setting-2 c =
-    let first = c.a-1 in
     let args = c.args in
-    let second = c.b-1 in
     let s = args.s.now in
     c.expect.ensures
     ∙ ap (expected s (text "?>")) c.space_end.ensures
     ∙ sym
-    (declared_third s args.at first.given.0.0 (sym c.setting.ensures ∙ first.given.1) second.given.0.0 (sym c.maybe_setting.ensures ∙ second.given.1)
+    (declared_third s args.at c.in-To.a (sym c.setting.ensures ∙ c.in-To.is) c.in-To-maybe_setting.b (sym c.maybe_setting.ensures ∙ c.in-To-maybe_setting.is)
     (To c.in-To-maybe_setting-2.c) (sym c.maybe_setting-in-To-maybe_setting.ensures ∙ c.in-To-maybe_setting-2.is))
 
 pub returns-in-Broken-maybe_setting-2 : goal.returns-in-Broken-maybe_setting-2
 returns-in-Broken-maybe_setting-2 c =
-    let first = c.a-1 in
     let args = c.args in
-    let second = c.b-1 in
-    let p = c.p-1 in
     sym
-    (declared_third args.s.now args.at first.given.0.0 (sym c.setting.ensures ∙ first.given.1) second.given.0.0 (sym c.maybe_setting.ensures ∙ second.given.1)
-    (Broken p.given.0.0) (sym c.maybe_setting-in-To-maybe_setting.ensures ∙ p.given.1))
+    (declared_third args.s.now args.at c.in-To.a (sym c.setting.ensures ∙ c.in-To.is) c.in-To-maybe_setting.b (sym c.maybe_setting.ensures ∙ c.in-To-maybe_setting.is)
+    (Broken c.in-Broken-maybe_setting-2.p) (sym c.maybe_setting-in-To-maybe_setting.ensures ∙ c.in-Broken-maybe_setting-2.is))
 
 pub returns-in-Broken-maybe_setting : goal.returns-in-Broken-maybe_setting
 returns-in-Broken-maybe_setting c =
-    let first = c.a-1 in
     let args = c.args in
-    let p2 = c.p-in-Broken-maybe_setting-1 in
     sym
-    (declared_second args.s.now args.at first.given.0.0 (sym c.setting.ensures ∙ first.given.1) (Broken p2.given.0.0)
-    (sym c.maybe_setting.ensures ∙ p2.given.1))
+    (declared_second args.s.now args.at c.in-To.a (sym c.setting.ensures ∙ c.in-To.is) (Broken c.in-Broken-maybe_setting.p)
+    (sym c.maybe_setting.ensures ∙ c.in-Broken-maybe_setting.is))
 
 pub returns-in-Broken : goal.returns-in-Broken
 returns-in-Broken c =
     let args = c.args in
-    let p3 = c.p-in-Broken-setting-1 in
-    sym (declared_first args.s.now args.at (Broken p3.given.0.0) (sym c.setting.ensures ∙ p3.given.1))
+    sym (declared_first args.s.now args.at (Broken c.in-Broken.p) (sym c.setting.ensures ∙ c.in-Broken.is))

@@ -24,17 +24,15 @@ pub returns-in-To : goal.returns-in-To
 returns-in-To c =
     let after_mark_lem = c.after_mark-from in
     let args = c.args in
-    let n = c.n-1 in
     ap To c.space_end-in-To.ensures
     ∙ sym
     (prolog_declared args.s.now after_mark_lem.result after_mark_lem.ensures (sym c.stands_at.ensures ∙ c.if-not-stands_at.false)
-    (To n.given.0.0) (sym c.declaration.ensures ∙ n.given.1))
+    (To c.in-To.n) (sym c.declaration.ensures ∙ c.in-To.is))
 
 pub returns-in-Broken : goal.returns-in-Broken
 returns-in-Broken c =
     let after_mark_lem = c.after_mark-from in
     let args = c.args in
-    let p = c.p-1 in
     sym
     (prolog_declared args.s.now after_mark_lem.result after_mark_lem.ensures (sym c.stands_at.ensures ∙ c.if-not-stands_at.false)
-    (Broken p.given.0.0) (sym c.declaration.ensures ∙ p.given.1))
+    (Broken c.in-Broken.p) (sym c.declaration.ensures ∙ c.in-Broken.is))

@@ -15,19 +15,17 @@ pub returns-in-To : goal.returns-in-To
 returns-in-To c =
     let args = c.args in
     let byte_at = c.byte_at in
-    let n = c.n-1 in
     let space_end_lem = c.space_end in
     c.equated.ensures
     ∙ sym
     (setting_named args.k args.s.now args.at byte_at.result byte_at.ensures (sym c.is_space.ensures ∙ c.if-not-is_space.false) space_end_lem.result space_end_lem.ensures
-    (To n.given.0.0) (sym c.name.ensures ∙ n.given.1))
+    (To c.in-To.n) (sym c.name.ensures ∙ c.in-To.is))
 
 pub returns-in-Broken : goal.returns-in-Broken
 returns-in-Broken c =
     let args = c.args in
     let byte_at = c.byte_at in
-    let p = c.p-1 in
     let space_end_lem = c.space_end in
     sym
     (setting_named args.k args.s.now args.at byte_at.result byte_at.ensures (sym c.is_space.ensures ∙ c.if-not-is_space.false) space_end_lem.result space_end_lem.ensures
-    (Broken p.given.0.0) (sym c.name.ensures ∙ p.given.1))
+    (Broken c.in-Broken.p) (sym c.name.ensures ∙ c.in-Broken.is))

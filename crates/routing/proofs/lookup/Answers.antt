@@ -25,13 +25,12 @@ returns-then-bic-ne-BIC_WIDTH c =
 pub returns-in-Row : goal.returns-in-Row
 returns-in-Row c =
     let args = c.args in
-    let given = c.found-1.given in
-    let below = found_below args.table.now _ _ given.1 c.route-found.ensures.within in
+    let below = found_below args.table.now _ _ c.in-Row.is c.route-found.ensures.within in
     record {
-      is = ap (row_is given.0.0) (c.reachable-reached.ensures ∙ ap (λ (f : Found). reachable args.table.now (option_of f)) given.1)
+      is = ap (row_is c.in-Row.i) (c.reachable-reached.ensures ∙ ap (λ (f : Found). reachable args.table.now (option_of f)) c.in-Row.is)
           ∙ lookup_row args.date args.table.now args.bic.now
           (sym c.is_date.ensures ∙ c.if-not-is_date.false) (sym c.well_formed-2.ensures.is ∙ c.if-not-well_formed.false)
-          c.if-bic-ne-BIC_WIDTH.false _ (ap option_of (sym given.1) ∙ c.route-found.ensures.is);
+          c.if-bic-ne-BIC_WIDTH.false _ (ap option_of (sym c.in-Row.is) ∙ c.route-found.ensures.is);
       within = below;
       small = lt_of_lt_of_le below (c.well_formed-2.ensures.formed (c.if-not-well_formed.false)).few;
     }

@@ -1,7 +1,6 @@
 -- `slots::is_built` meets its contract: a turn of the loop checks a record. Assumes nothing.
 use borrow.Author.Tests.{not-true, not-false}
 use mathlib.Core.Path.{◌≡◌, sym, ap, ◌∙◌}
-use mathlib.Core.Logic.{⊎_elim}
 use Prim.Native.Nat.{◌+◌, ◌-◌}
 use native.Mathlib.Omega.{arith}
 use Rattle.slots.specs.Slots.{start_at}
@@ -9,6 +8,7 @@ use Rattle.slots.specs.Asked.{front_at}
 use Rattle.slots.proofs.Starts.{begun_front}
 use Rattle.slots.proofs.Checking.{checking_first, checking_counts, checking_passes, checking_fails, checking_many, checking_ends}
 use Rattle.slots.proofs.is_built.Goals as goal
+use Rattle.slots.proofs.is_built.Goals.{then-name-k, else-name-k}
 
 pub returns-then-m-all : goal.returns-then-m-all
 returns-then-m-all c =
@@ -64,7 +64,7 @@ loop-k-preserved c =
     let passes = checking_passes args.layout args.records.now args.index.now args.m loop.count loop.k loop.invariant.0 _ c.search_from-ended.result
     c.key_in-key.ensures c.search_from-ended.ensures c.loop-k-test.true fits in
     let back : loop.k ≡ loop.k + 1 - 1 = omega arith in
-    (⊎_elim (λ w. rw w.1 (counts w.0.taken)) (λ w. rw w.1 (passes w.0.left)) c.if-name-k.branch, λ some. c.front_at-front.ensures ∙ ap (front_at args.layout args.records.now _) back)
+    (elim c.if-name-k.branch [ then-name-k w ↦ rw w.count-is (counts w.if-name-k.true) | else-name-k w ↦ rw w.count-is (passes w.if-name-k.false) ], λ some. c.front_at-front.ensures ∙ ap (front_at args.layout args.records.now _) back)
 
 pub returns : goal.returns
 returns c =

@@ -39,19 +39,17 @@ overflow_add-at-2 c =
 pub name_again-requires : goal.name_again-requires
 name_again-requires c =
     let slash : byte_at c.args.s.now (c.args.at + 1) ≡ 47 = sym c.byte_at-2.ensures ∙ c.if-byte_at-ne47.false in
-    (c.requires, omega (arith, byte_there c.args.s.now (c.args.at + 1) (omega arith)))
+    record { to_value = c.requires; at_in_bounds = omega (arith, byte_there c.args.s.now (c.args.at + 1) (omega arith)) }
 
 pub returns-in-To : goal.returns-in-To
 returns-in-To c =
-    let m = c.m-1 in
     c.end_closed.ensures
     ∙ end_named c.args.s.now c.args.start c.args.at
     (sym c.byte_at.ensures ∙ c.if-byte_at-ne60.false) (sym c.byte_at-2.ensures ∙ c.if-byte_at-ne47.false)
-    c.args.to c.requires (To m.given.0.0) (sym c.name_again.ensures ∙ m.given.1)
+    c.args.to c.requires (To c.in-To.m) (sym c.name_again.ensures ∙ c.in-To.is)
 
 pub returns-in-Broken : goal.returns-in-Broken
 returns-in-Broken c =
-    let p = c.p-1 in
     end_named c.args.s.now c.args.start c.args.at
     (sym c.byte_at.ensures ∙ c.if-byte_at-ne60.false) (sym c.byte_at-2.ensures ∙ c.if-byte_at-ne47.false)
-    c.args.to c.requires (Broken p.given.0.0) (sym c.name_again.ensures ∙ p.given.1)
+    c.args.to c.requires (Broken c.in-Broken.p) (sym c.name_again.ensures ∙ c.in-Broken.is)

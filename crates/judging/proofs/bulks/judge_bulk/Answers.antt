@@ -43,13 +43,13 @@ pub slice_bounds-judge_messages-count : goal.slice_bounds-judge_messages-count
 slice_bounds-judge_messages-count c =
     let a = c.args in
     let counted = c.put_count in
-    rw c.lines_at-from.ensures (lent_within a.report.now a.section.number a.places c.requires.2 counted.new.0 counted.auto.0)
+    rw c.lines_at-from.ensures (lent_within a.report.now a.section.number a.places c.requires.2 counted.new.out counted.auto.out)
 
 pub slice_bounds-judge_messages-start : goal.slice_bounds-judge_messages-start
 slice_bounds-judge_messages-start c =
     let a = c.args in
     let counted = c.put_count in
-    rw c.lines_at-from.ensures (lent_within a.report.now a.section.number a.places c.requires.2 counted.new.0 counted.auto.0)
+    rw c.lines_at-from.ensures (lent_within a.report.now a.section.number a.places c.requires.2 counted.new.out counted.auto.out)
 
 pub judge_messages-counts-requires : goal.judge_messages-counts-requires
 judge_messages-counts-requires c =
@@ -58,7 +58,7 @@ judge_messages-counts-requires c =
     let counted = c.put_count in (
       ruling_ready a.terms a.sheet.now a.table.now a.positions.now a.header c.requires.0 _ c.sender-sender.ensures office.result office.ensures _,
       c.requires.1,
-      lent_space a.report.now a.section.number a.places c.requires.2 counted.new.0 _ counted.auto.0 c.lines_at-from.ensures,
+      lent_space a.report.now a.section.number a.places c.requires.2 counted.new.out _ counted.auto.out c.lines_at-from.ensures,
       ready_for a.indexed a.register.now a.index.now a.section.number c.requires.3 a.section.number (omega arith),
       c.requires.4,
     )
@@ -70,7 +70,7 @@ put_bulk_line-requires c =
     let counted = c.put_count in
     let lines = c.lines_at-from in
     let judged = c.judge_messages-counts in (
-      line_within a.report.now a.section.number a.places c.requires.2 counted.new.0 _ _ (judge_messages a.terms a.table.now (header_in a.sheet.now a.header) (not (eqb faults.result 0)) (messages_of a.sheet.now a.header.kind a.section) (state_of a.register.now a.positions.now)).lines counted.auto.0 (middle_lent counted.new.0 lines.result 0 (lines_at a.places.section) (judge_messages a.terms a.table.now (header_in a.sheet.now a.header) (not (eqb faults.result 0)) (messages_of a.sheet.now a.header.kind a.section) (state_of a.register.now a.positions.now)).lines _ (place_there _ _ lines.ensures) judged.ensures.lines),
+      line_within a.report.now a.section.number a.places c.requires.2 counted.new.out _ _ (judge_messages a.terms a.table.now (header_in a.sheet.now a.header) (not (eqb faults.result 0)) (messages_of a.sheet.now a.header.kind a.section) (state_of a.register.now a.positions.now)).lines counted.auto.out (middle_lent counted.new.out lines.result 0 (lines_at a.places.section) (judge_messages a.terms a.table.now (header_in a.sheet.now a.header) (not (eqb faults.result 0)) (messages_of a.sheet.now a.header.kind a.section) (state_of a.register.now a.positions.now)).lines _ (place_there _ _ lines.ensures) judged.ensures.lines),
       (bulk_parts a.terms a.sheet.now a.table.now a.positions.now a.header c.requires.0 _ _ c.sender-sender.ensures c.identifier-identifier.ensures).identifier_wide,
     )
 
@@ -110,9 +110,9 @@ shape_of-report c =
     let counted = c.put_count in
     let lines = c.lines_at-from in
     c.put_bulk_line.auto.out
-    ∙ ap length (middle_lent counted.new.0 lines.result 0 (lines_at a.places.section) (judge_messages a.terms a.table.now (header_in a.sheet.now a.header) (not (eqb faults.result 0)) (messages_of a.sheet.now a.header.kind a.section) (state_of a.register.now a.positions.now)).lines _ (place_there _ _ lines.ensures) c.judge_messages-counts.ensures.lines)
-    ∙ length-sets counted.new.0 (lines_at a.places.section) (judge_messages a.terms a.table.now (header_in a.sheet.now a.header) (not (eqb faults.result 0)) (messages_of a.sheet.now a.header.kind a.section) (state_of a.register.now a.positions.now)).lines
-    ∙ counted.auto.0
+    ∙ ap length (middle_lent counted.new.out lines.result 0 (lines_at a.places.section) (judge_messages a.terms a.table.now (header_in a.sheet.now a.header) (not (eqb faults.result 0)) (messages_of a.sheet.now a.header.kind a.section) (state_of a.register.now a.positions.now)).lines _ (place_there _ _ lines.ensures) c.judge_messages-counts.ensures.lines)
+    ∙ length-sets counted.new.out (lines_at a.places.section) (judge_messages a.terms a.table.now (header_in a.sheet.now a.header) (not (eqb faults.result 0)) (messages_of a.sheet.now a.header.kind a.section) (state_of a.register.now a.positions.now)).lines
+    ∙ counted.auto.out
 
 pub returns : goal.returns
 returns c =
@@ -123,4 +123,4 @@ returns c =
     bulk_told a.terms a.table.now a.sheet.now a.indexed a.header a.section (state_of a.register.now a.positions.now) a.index.now a.report.now a.places
     _ _ _ c.sender-sender.ensures c.identifier-identifier.ensures c.key_of-key.ensures c.seek-sought.result c.seek-sought.ensures _ (cents_of c.sum_of-sum.result) c.sum_of-sum.ensures c.bulk_faults-faults.ensures
     c.judge_messages-counts.result _ _ _ _ _ c.judge_messages-counts.ensures _ _ _ c.record_bulk-again.ensures
-    _ _ _ _ counted.ensures (middle_lent counted.new.0 lines.result 0 (lines_at a.places.section) (judge_messages a.terms a.table.now (header_in a.sheet.now a.header) (not (eqb faults.result 0)) (messages_of a.sheet.now a.header.kind a.section) (state_of a.register.now a.positions.now)).lines _ (place_there _ _ lines.ensures) c.judge_messages-counts.ensures.lines) c.bulk_outcome.ensures c.put_bulk_line.ensures
+    _ _ _ _ counted.ensures (middle_lent counted.new.out lines.result 0 (lines_at a.places.section) (judge_messages a.terms a.table.now (header_in a.sheet.now a.header) (not (eqb faults.result 0)) (messages_of a.sheet.now a.header.kind a.section) (state_of a.register.now a.positions.now)).lines _ (place_there _ _ lines.ensures) c.judge_messages-counts.ensures.lines) c.bulk_outcome.ensures c.put_bulk_line.ensures

@@ -50,8 +50,8 @@ next-places-requires c =
     let low = c.loop-k-test.true in
     let taken = c.bulk-read.ensures in
     let judged = c.judge_bulk-slots in (
-      line_within a.terms a.table.now a.sheet.now a.indexed a.contents.bulks (state_of a.register.now a.positions.now) a.index.now a.report.now l.register l.index l.positions l.report l.slots l.walk.heads.at l.walk.bodies.at l.places.line l.places.section l.k l.invariant low judged.new.1.1.1.1.1.1.1.1.0 judged.auto.1.1.1.1.1.1.1.1.0,
-      section_within a.terms a.table.now a.sheet.now a.indexed a.contents.bulks (state_of a.register.now a.positions.now) a.index.now a.report.now l.register l.index l.positions l.report l.slots l.walk.heads.at l.walk.bodies.at l.places.line l.places.section l.k l.invariant low judged.new.1.1.1.1.1.1.1.1.0 judged.auto.1.1.1.1.1.1.1.1.0 _ taken.number,
+      line_within a.terms a.table.now a.sheet.now a.indexed a.contents.bulks (state_of a.register.now a.positions.now) a.index.now a.report.now l.register l.index l.positions l.report l.slots l.walk.heads.at l.walk.bodies.at l.places.line l.places.section l.k l.invariant low judged.new.report judged.auto.report,
+      section_within a.terms a.table.now a.sheet.now a.indexed a.contents.bulks (state_of a.register.now a.positions.now) a.index.now a.report.now l.register l.index l.positions l.report l.slots l.walk.heads.at l.walk.bodies.at l.places.line l.places.section l.k l.invariant low judged.new.report judged.auto.report _ taken.number,
     )
 
 pub overflow_add-k : goal.overflow_add-k
@@ -70,7 +70,7 @@ loop-k-preserved c =
     let judged = c.judge_bulk-slots in
     let moved = c.next-places.ensures in
     bulks_turn a.terms a.table.now a.sheet.now a.indexed a.contents.bulks (state_of a.register.now a.positions.now) a.index.now a.report.now l.register l.index l.positions l.report l.slots l.walk.heads.at l.walk.bodies.at l.places.line l.places.section l.k l.invariant low _ _ _ _ _ (told_there a.terms a.table.now a.sheet.now a.indexed a.contents.bulks (state_of a.register.now a.positions.now) a.index.now a.report.now l.register l.index l.positions l.report l.slots l.walk.heads.at l.walk.bodies.at l.places.line l.places.section l.k l.invariant low read.result taken l.places _ _ _ _ _ refl refl judged.ensures)
-    judged.auto.1.1.1.1.1.0 judged.auto.1.1.1.1.1.1.0 judged.auto.1.1.1.1.1.1.1.0 judged.auto.1.1.1.1.1.1.1.1.0 _ _ _ _ _ taken.number taken.heads taken.bodies moved.line_is moved.section_is
+    judged.auto.register judged.auto.index judged.auto.positions judged.auto.report _ _ _ _ _ taken.number taken.heads taken.bodies moved.line_is moved.section_is
 
 pub shape_of-register : goal.shape_of-register
 shape_of-register c = c.loop-k.invariant.register_wide

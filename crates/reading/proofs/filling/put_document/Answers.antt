@@ -13,11 +13,11 @@ pub overflow_sub-messages : goal.overflow_sub-messages
 overflow_sub-messages c =
     let a = c.args in
     let put = c.put_child-put in
-    let end = messages_end a.s.now (document_at a.s.now a.i) a.i a.h a.m a.d.now c.requires put.new.0 put.new.1.1.1.1.1.1.0 put.result (rw (← c.name_at.ensures, ← c.root_role-role.ensures) put.ensures.0) (rw (← c.name_at.ensures, ← c.root_role-role.ensures) put.ensures.1) in
+    let end = messages_end a.s.now (document_at a.s.now a.i) a.i a.h a.m a.d.now c.requires put.new.d put.new.notes put.result (rw (← c.name_at.ensures, ← c.root_role-role.ensures) put.ensures.written) (rw (← c.name_at.ensures, ← c.root_role-role.ensures) put.ensures.notes) in
     omega arith
 
 pub returns : goal.returns
 returns c =
     let a = c.args in
     let put = c.put_child-put in
-    document_put a.s.now (document_at a.s.now a.i) a.i a.h a.m a.d.now c.requires put.new.0 put.new.1.1.1.1.1.1.0 put.result (rw (← c.name_at.ensures, ← c.root_role-role.ensures) put.ensures.0) (rw (← c.name_at.ensures, ← c.root_role-role.ensures) put.ensures.1) _ _ c.put_header.ensures c.put_number.ensures
+    document_put a.s.now (document_at a.s.now a.i) a.i a.h a.m a.d.now c.requires put.new.d put.new.notes put.result (rw (← c.name_at.ensures, ← c.root_role-role.ensures) put.ensures.written) (rw (← c.name_at.ensures, ← c.root_role-role.ensures) put.ensures.notes) _ _ c.put_header.ensures c.put_number.ensures

@@ -22,18 +22,18 @@ put_document-put-requires c =
     let a = c.args in
     let l = c.loop-i in
     let base = c.put_number in
-    let fits = fitting_on a.s.now (roots_at a.s.now a.first) a.bulks a.d.now base.new.0 c.requires base.auto.0 in
+    let fits = fitting_on a.s.now (roots_at a.s.now a.first) a.bulks a.d.now base.new.d c.requires base.auto.d in
     let low = c.loop-i-test.true in
-    document_placed a.s.now a.first a.bulks base.new.0 fits l.i l.h l.m l.d l.invariant.1 (next_document a.s.now a.first a.bulks base.new.0 fits l.i l.h l.m l.d l.invariant.1 low) low
+    document_placed a.s.now a.first a.bulks base.new.d fits l.i l.h l.m l.d l.invariant.1 (next_document a.s.now a.first a.bulks base.new.d fits l.i l.h l.m l.d l.invariant.1 low) low
 
 pub overflow_add-h : goal.overflow_add-h
 overflow_add-h c =
     let a = c.args in
     let l = c.loop-i in
     let base = c.put_number in
-    let fits = fitting_on a.s.now (roots_at a.s.now a.first) a.bulks a.d.now base.new.0 c.requires base.auto.0 in
+    let fits = fitting_on a.s.now (roots_at a.s.now a.first) a.bulks a.d.now base.new.d c.requires base.auto.d in
     let room = headers_fit a.s.now (roots_at a.s.now a.first) a.bulks a.d.now c.requires in
-    let head = head_room a.s.now a.first a.bulks base.new.0 fits l.i l.h l.m l.d l.invariant.1 (next_document a.s.now a.first a.bulks base.new.0 fits l.i l.h l.m l.d l.invariant.1 c.loop-i-test.true) in
+    let head = head_room a.s.now a.first a.bulks base.new.d fits l.i l.h l.m l.d l.invariant.1 (next_document a.s.now a.first a.bulks base.new.d fits l.i l.h l.m l.d l.invariant.1 c.loop-i-test.true) in
     let at = l.invariant.1.heads in
     search rules
 
@@ -42,8 +42,8 @@ loop-i-smaller c =
     let a = c.args in
     let l = c.loop-i in
     let base = c.put_number in
-    let fits = fitting_on a.s.now (roots_at a.s.now a.first) a.bulks a.d.now base.new.0 c.requires base.auto.0 in
-    let next = next_document a.s.now a.first a.bulks base.new.0 fits l.i l.h l.m l.d l.invariant.1 c.loop-i-test.true in
+    let fits = fitting_on a.s.now (roots_at a.s.now a.first) a.bulks a.d.now base.new.d c.requires base.auto.d in
+    let next = next_document a.s.now a.first a.bulks base.new.d fits l.i l.h l.m l.d l.invariant.1 c.loop-i-test.true in
     let on = document_onward a.s.now l.i next.end next.forest next.was in
     let put = rw next.was at c.put_document-put.ensures in
     omega (arith, c.space_end-i.ensures, put.0, c.loop-i-test.true)
@@ -53,11 +53,11 @@ loop-i-preserved c =
     let a = c.args in
     let l = c.loop-i in
     let base = c.put_number in
-    let fits = fitting_on a.s.now (roots_at a.s.now a.first) a.bulks a.d.now base.new.0 c.requires base.auto.0 in
-    let next = next_document a.s.now a.first a.bulks base.new.0 fits l.i l.h l.m l.d l.invariant.1 c.loop-i-test.true in
+    let fits = fitting_on a.s.now (roots_at a.s.now a.first) a.bulks a.d.now base.new.d c.requires base.auto.d in
+    let next = next_document a.s.now a.first a.bulks base.new.d fits l.i l.h l.m l.d l.invariant.1 c.loop-i-test.true in
     let put = rw next.was at c.put_document-put.ensures in (
       c.put_document-put.auto.d ∙ l.invariant.0,
-      rw c.space_end-i.ensures (writing_on a.s.now a.first a.bulks base.new.0 fits l.i l.h l.m l.d l.invariant.1 next c.put_document-put.result _ (l.h + 65) c.loop-i-test.true put refl),
+      rw c.space_end-i.ensures (writing_on a.s.now a.first a.bulks base.new.d fits l.i l.h l.m l.d l.invariant.1 next c.put_document-put.result _ (l.h + 65) c.loop-i-test.true put refl),
     )
 
 pub returns : goal.returns
@@ -65,5 +65,5 @@ returns c =
     let a = c.args in
     let l = c.loop-i in
     let base = c.put_number in
-    let fits = fitting_on a.s.now (roots_at a.s.now a.first) a.bulks a.d.now base.new.0 c.requires base.auto.0 in
-    writing_ends a.s.now a.first a.bulks base.new.0 fits l.i l.h l.m l.d l.invariant.1 a.d.now base.ensures c.loop-i-test.false
+    let fits = fitting_on a.s.now (roots_at a.s.now a.first) a.bulks a.d.now base.new.d c.requires base.auto.d in
+    writing_ends a.s.now a.first a.bulks base.new.d fits l.i l.h l.m l.d l.invariant.1 a.d.now base.ensures c.loop-i-test.false

@@ -23,9 +23,8 @@ pub taken-room-requires : goal.taken-room-requires
 taken-room-requires c =
     let a = c.args in
     let l = c.loop-i in
-    let step = c.step-1.given in
-    let done = done_read (document_at a.s.now l.i) step.0.0 (sym c.look-seen.ensures.step ∙ step.1) in
-    looked_few (document_at a.s.now l.i) step.0.0 done.forest l.lack _ done.was c.look-seen.ensures.told
+    let done = done_read (document_at a.s.now l.i) c.in-Done.n (sym c.look-seen.ensures.step ∙ c.in-Done.is) in
+    looked_few (document_at a.s.now l.i) c.in-Done.n done.forest l.lack _ done.was c.look-seen.ensures.told
 
 -- each document takes a byte or more
 pub overflow_add-bulks : goal.overflow_add-bulks
@@ -35,34 +34,30 @@ pub loop-i-smaller : goal.loop-i-smaller
 loop-i-smaller c =
     let a = c.args in
     let l = c.loop-i in
-    let step = c.step-1.given in
-    let done = done_read (document_at a.s.now l.i) step.0.0 (sym c.look-seen.ensures.step ∙ step.1) in
-    let on = document_onward a.s.now l.i step.0.0 done.forest done.was in
+    let done = done_read (document_at a.s.now l.i) c.in-Done.n (sym c.look-seen.ensures.step ∙ c.in-Done.is) in
+    let on = document_onward a.s.now l.i c.in-Done.n done.forest done.was in
     omega (arith, c.space_end-i.ensures, c.loop-i-test.true)
 
 pub loop-i-preserved : goal.loop-i-preserved
 loop-i-preserved c =
     let a = c.args in
     let l = c.loop-i in
-    let step = c.step-1.given in
     let seen = c.look-seen.result in
-    let done = done_read (document_at a.s.now l.i) step.0.0 (sym c.look-seen.ensures.step ∙ step.1) in
-    let told = looked_read (document_at a.s.now l.i) step.0.0 done.forest l.lack seen done.was c.look-seen.ensures.told in
-    rw (c.space_end-i.ensures, c.taken-room.ensures) (survey_on a.s.now a.space a.first l.i l.lack l.bulks l.room l.invariant step.0.0 done.forest seen c.loop-i-test.true c.if-s-i-ne60.false done.was told)
+    let done = done_read (document_at a.s.now l.i) c.in-Done.n (sym c.look-seen.ensures.step ∙ c.in-Done.is) in
+    let told = looked_read (document_at a.s.now l.i) c.in-Done.n done.forest l.lack seen done.was c.look-seen.ensures.told in
+    rw (c.space_end-i.ensures, c.taken-room.ensures) (survey_on a.s.now a.space a.first l.i l.lack l.bulks l.room l.invariant c.in-Done.n done.forest seen c.loop-i-test.true c.if-s-i-ne60.false done.was told)
 
 pub returns-in-Form : goal.returns-in-Form
 returns-in-Form c =
     let a = c.args in
     let l = c.loop-i in
-    let step = c.step-in-Form-1.given in
-    rw (survey_stops a.s.now a.space a.first l.i l.lack l.bulks l.room l.invariant (broken step.0.0) c.loop-i-test.true c.if-s-i-ne60.false (form_broken (document_at a.s.now l.i) step.0.0 (sym c.look-seen.ensures.step ∙ step.1)))
+    rw (survey_stops a.s.now a.space a.first l.i l.lack l.bulks l.room l.invariant (broken c.in-Form.p) c.loop-i-test.true c.if-s-i-ne60.false (form_broken (document_at a.s.now l.i) c.in-Form.p (sym c.look-seen.ensures.step ∙ c.in-Form.is)))
 
 pub returns-in-Deep : goal.returns-in-Deep
 returns-in-Deep c =
     let a = c.args in
     let l = c.loop-i in
-    let step = c.step-in-Deep-1.given in
-    rw (survey_stops a.s.now a.space a.first l.i l.lack l.bulks l.room l.invariant (deep step.0.0) c.loop-i-test.true c.if-s-i-ne60.false (deep_deep (document_at a.s.now l.i) step.0.0 (sym c.look-seen.ensures.step ∙ step.1)))
+    rw (survey_stops a.s.now a.space a.first l.i l.lack l.bulks l.room l.invariant (deep c.in-Deep.p) c.loop-i-test.true c.if-s-i-ne60.false (deep_deep (document_at a.s.now l.i) c.in-Deep.p (sym c.look-seen.ensures.step ∙ c.in-Deep.is)))
 
 pub returns : goal.returns
 returns c =

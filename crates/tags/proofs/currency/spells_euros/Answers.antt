@@ -12,35 +12,29 @@ pub returns-in-To-letter-2 : goal.returns-in-To-letter-2
 unfolding spells
 returns-in-To-letter-2 c =
     let args = c.args in
-    let a = c.a-1 in
-    let b_there = c.b-1 in
-    let e = c.e-1 in
     let s = args.s.now in
     let quote = args.quote in
     ap (λ (b : ℕ). eqb b quote) c.byte_at.ensures
-    ∙ sym (spells_letter 69 (text "UR") quote s args.at (To a.given.0.0) (sym c.letter.ensures ∙ a.given.1)
-    ∙ spells_letter 85 (text "R") quote s a.given.0.0 (To b_there.given.0.0) (sym c.letter-in-To.ensures ∙ b_there.given.1)
-    ∙ spells_letter 82 (text "") quote s b_there.given.0.0 (To e.given.0.0) (sym c.letter-in-To-letter.ensures ∙ e.given.1))
+    ∙ sym (spells_letter 69 (text "UR") quote s args.at (To c.in-To.a) (sym c.letter.ensures ∙ c.in-To.is)
+    ∙ spells_letter 85 (text "R") quote s c.in-To.a (To c.in-To-letter.b) (sym c.letter-in-To.ensures ∙ c.in-To-letter.is)
+    ∙ spells_letter 82 (text "") quote s c.in-To-letter.b (To c.in-To-letter-2.e) (sym c.letter-in-To-letter.ensures ∙ c.in-To-letter-2.is))
 
 pub returns-in-Broken-letter-2 : goal.returns-in-Broken-letter-2
 returns-in-Broken-letter-2 c =
     let args = c.args in
-    let a = c.a-1 in
-    let b = c.b-1 in
     let s = args.s.now in
     let quote = args.quote in
-    sym (spells_letter 69 (text "UR") quote s args.at (To a.given.0.0) (sym c.letter.ensures ∙ a.given.1)
-    ∙ spells_letter 85 (text "R") quote s a.given.0.0 (To b.given.0.0) (sym c.letter-in-To.ensures ∙ b.given.1)
-    ∙ spells_letter 82 (text "") quote s b.given.0.0 _ (sym c.letter-in-To-letter.ensures ∙ c.in-Broken-letter-2.is))
+    sym (spells_letter 69 (text "UR") quote s args.at (To c.in-To.a) (sym c.letter.ensures ∙ c.in-To.is)
+    ∙ spells_letter 85 (text "R") quote s c.in-To.a (To c.in-To-letter.b) (sym c.letter-in-To.ensures ∙ c.in-To-letter.is)
+    ∙ spells_letter 82 (text "") quote s c.in-To-letter.b _ (sym c.letter-in-To-letter.ensures ∙ c.in-Broken-letter-2.is))
 
 pub returns-in-Broken-letter : goal.returns-in-Broken-letter
 returns-in-Broken-letter c =
     let args = c.args in
-    let a = c.a-1 in
     let s = args.s.now in
     let quote = args.quote in
-    sym (spells_letter 69 (text "UR") quote s args.at (To a.given.0.0) (sym c.letter.ensures ∙ a.given.1)
-    ∙ spells_letter 85 (text "R") quote s a.given.0.0 _ (sym c.letter-in-To.ensures ∙ c.in-Broken-letter.is))
+    sym (spells_letter 69 (text "UR") quote s args.at (To c.in-To.a) (sym c.letter.ensures ∙ c.in-To.is)
+    ∙ spells_letter 85 (text "R") quote s c.in-To.a _ (sym c.letter-in-To.ensures ∙ c.in-Broken-letter.is))
 
 pub returns-in-Broken : goal.returns-in-Broken
 returns-in-Broken c =

@@ -9,11 +9,8 @@ use Rattle.letters.specs.declared.Reach.TheVariants.{To}
 use Rattle.tags.specs.Names.{name_at}
 use Rattle.tags.proofs.AttributeWalk.{attribute_forward}
 use Rattle.tags.proofs.Searches.{some_past, some_here, some_more}
+use Rattle.tags.proofs.turns.named.Invariants.{alike}
 use Rattle.tags.proofs.turns.named.Goals as goal
-
--- whether the name at place k is the one that is looked for
-abbrev alike : List ℕ → ℕ → ℕ → Bool
-alike s at k = same (name_at s k) (name_at s at)
 
 pub returns-then-at-space_end : goal.returns-then-at-space_end
 returns-then-at-space_end c =

@@ -29,10 +29,10 @@ loop-n-preserved c =
     let beside : loop.n < length loop.marks = omega (arith, loop.invariant.2, c.requires.1, c.loop-n-test.true) in
     let more = held_more args.s.now args.from loop.i loop.places loop.marks loop.seen loop.n loop.invariant.4 c.in-On.next room beside (sym c.turn.ensures ∙ c.in-On.is) in (
       omega (arith, c.loop-n-test.true),
-      keep.auto.1.1.0 ∙ loop.invariant.1,
-      keep.auto.1.1.1.0 ∙ loop.invariant.2,
-      keep.auto.1.1.1.1.0 ∙ loop.invariant.3,
-      rw (← keep.ensures.0, ← keep.ensures.1.0, ← keep.ensures.1.1) at more,
+      keep.auto.places ∙ loop.invariant.1,
+      keep.auto.marks ∙ loop.invariant.2,
+      keep.auto.seen ∙ loop.invariant.3,
+      rw (← keep.ensures.places, ← keep.ensures.marks, ← keep.ensures.seen) at more,
     )
 
 pub returns-in-Ends : goal.returns-in-Ends

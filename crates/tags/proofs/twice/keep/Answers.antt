@@ -6,4 +6,4 @@ returns c =
     let place = c.space_end-k.ensures in
     let its = c.mark-its.ensures in
     let name = c.name_at.ensures in
-    (rw place, (rw (its, name, place), rw (its, name, place)))
+    record { places = rw place; marks = rw (its, name, place); seen = rw (its, name, place) }

@@ -30,8 +30,8 @@ loop-n-preserved c =
     let fill = c.fill in
     let loop = c.loop-n in
     let held = filled_full c.args.s.now c.loop-n.i _ _ _ c.fill.result c.fill.ensures c.in-On.n c.in-On.is in (
-      fill.auto.1.1.0 ∙ loop.invariant.0,
-      fill.auto.1.1.1.0 ∙ loop.invariant.1,
+      fill.auto.places ∙ loop.invariant.0,
+      fill.auto.marks ∙ loop.invariant.1,
       blocks_on c.args.s.now loop.i c.in-On.n _ _ _ held loop.first c.follow.result c.first_of-first.result _ c.follow.ensures c.first_of-first.ensures loop.invariant.2,
     )
 
