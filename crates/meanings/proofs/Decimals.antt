@@ -101,7 +101,7 @@ run_digits (x ∷ xs) = by_test (run_digits xs) (digit x) refl
 from_append : (v : ℕ) (xs ys : List ℕ) → numeral_from 10 v (xs ++ ys) ≡ numeral_from 10 (numeral_from 10 v xs) ys
 unfolding numeral_from
 from_append v [] ys = refl
-from_append v (x ∷ xs) ys = from_append _ xs ys
+from_append v (x ∷ xs) ys = from_append (v * 10 + digit_of x) xs ys
 
 -- what stands before digits counts ten times as much for each of them
 from_zero : (v : ℕ) (s : List ℕ) → numeral_from 10 v s ≡ v * 10 ^ length s + decimal s

@@ -14,7 +14,8 @@ decimal-requires c =
     let behind = c.text_at-parts in
     let front = c.text_at-wholes in
     let digits = c.run-n in
-    amount_wholes _ _ _ _ _ _ digits.ensures front.ensures behind.ensures byte.ensures c.digits.ensures c.if-pointed-digits.true
+    let fit = amount_wholes _ _ _ _ _ _ digits.ensures front.ensures behind.ensures byte.ensures c.digits.ensures c.if-pointed-digits.true in
+    record { t_value = fit.0; t_len_bound = fit.1 }
 
 pub hundredths-requires : goal.hundredths-requires
 hundredths-requires c =
@@ -22,7 +23,8 @@ hundredths-requires c =
     let behind = c.text_at-parts in
     let front = c.text_at-wholes in
     let digits = c.run-n in
-    amount_parts _ _ _ _ _ _ digits.ensures front.ensures behind.ensures byte.ensures c.digits.ensures c.if-pointed-digits.true
+    let fit = amount_parts _ _ _ _ _ _ digits.ensures front.ensures behind.ensures byte.ensures c.digits.ensures c.if-pointed-digits.true in
+    record { t_value = fit.0; t_len_bound = fit.1 }
 
 pub returns-then-pointed-digits : goal.returns-then-pointed-digits
 returns-then-pointed-digits c =

@@ -6,17 +6,17 @@ use Rattle.meanings.proofs.date_number.Goals as goal
 pub decimal-year-requires : goal.decimal-year-requires
 decimal-year-requires c =
     let pieces = date_form c.args.t.now c.requires in
-    (rw c.text_at.ensures pieces.years, rw c.text_at.ensures (omega arith))
+    record { t_value = rw c.text_at.ensures pieces.years; t_len_bound = rw c.text_at.ensures (omega arith) }
 
 pub decimal-month-requires : goal.decimal-month-requires
 decimal-month-requires c =
     let pieces = date_form c.args.t.now c.requires in
-    (rw c.text_at-2.ensures pieces.months, rw c.text_at-2.ensures (omega arith))
+    record { t_value = rw c.text_at-2.ensures pieces.months; t_len_bound = rw c.text_at-2.ensures (omega arith) }
 
 pub decimal-day-requires : goal.decimal-day-requires
 decimal-day-requires c =
     let pieces = date_form c.args.t.now c.requires in
-    (rw c.text_at-3.ensures pieces.days, rw c.text_at-3.ensures (omega arith))
+    record { t_value = rw c.text_at-3.ensures pieces.days; t_len_bound = rw c.text_at-3.ensures (omega arith) }
 
 pub in_eight-requires : goal.in_eight-requires
 in_eight-requires c =

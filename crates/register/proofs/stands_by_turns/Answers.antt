@@ -7,10 +7,8 @@ use Prim.Native.Nat.{ℕ, ◌+◌, ◌*◌, ◌≤◌}
 use native.Mathlib.Omega.{arith}
 use Rattle.register.proofs.Search.{stands_left, stands_ends, turn_finds, turn_goes_on}
 use borrow.Author.Rules.{rules}
+use Rattle.register.proofs.stands_by_turns.Invariants.{turn}
 use Rattle.register.proofs.stands_by_turns.Goals as goal
-
-abbrev turn : ℕ
-turn = 8
 
 begun : (r x : List ℕ) (to from : ℕ) → stands_left r x to (from + turn * 0) ≡ stands_left r x to from
 begun r x to from = let none : from + turn * 0 ≡ from = omega arith in rw none
