@@ -8,7 +8,7 @@ pub decimal-requires : goal.decimal-requires
 decimal-requires c =
     let t = c.args.t.now in
     let form = number_form t (sym (number_test t _ c.digits.ensures) ∙ c.if-digits-t.true) in
-    (form.0, omega arith)
+    record { t_value = form.0; t_len_bound = omega arith }
 
 pub returns-then-digits-t : goal.returns-then-digits-t
 returns-then-digits-t c =

@@ -79,4 +79,4 @@ returns-in-19 c = there c.args.name.now c.in-19.is c.in_original_reference.ensur
 
 pub returns-in_default : goal.returns-in_default
 unfolding child_role among
-returns-in_default c = sym (child_none c.args.parent (λ low. omega (arith, beyond c.args.parent 2 18 c.in_default-own.rest low)) c.args.name.now)
+returns-in_default c = sym (child_none c.args.parent (λ low. omega (arith, beyond c.args.parent 2 18 c.in_default.in_default-own.rest low)) c.args.name.now)

@@ -85,5 +85,5 @@ returns-in-19 c = lacks_there (λ k. get_or c.args.counts.now k 0) c.in-19.is (o
 pub returns-in_default : goal.returns-in_default
 unfolding lacks all_met
 returns-in_default c =
-    let above = beyond c.args.role 1 19 c.in_default-own.rest in
+    let above = beyond c.args.role 1 19 c.in_default.in_default-own.rest in
     sym (lacks_none c.args.role (λ low. omega (arith, above (omega arith))) (λ k. get_or c.args.counts.now k 0) (λ e. absurd (omega (arith, above (omega arith)))))
