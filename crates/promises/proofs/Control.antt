@@ -18,9 +18,9 @@ use denote.Triple.Clauses.{Clauses, closing}
 use lib.ListN.{length}
 use Rattle.promises.specs.Determined.{Allows, Determines}
 use Rattle.promises.proofs.Told.{tell}
-use Rattle.wire.proofs as wire
-use Rattle.writing.proofs as writing
-use Rattle.judging.proofs as judging
+use Rattle.wire.specs.contracts as wire
+use Rattle.writing.specs.contracts as writing
+use Rattle.judging.specs.contracts as judging
 
 module _ {M : Type 1} {𝓤 : Ura M} (𝓛 : Logic 𝓤) (mem : Memory → SProp 𝓤) (run : Routine → Fun 𝓤) where
   -- the contract is the one that the function is proved to meet

@@ -13,12 +13,12 @@ use types.Logic.{Logic}
 use contract.Monad.{Fun}
 use Rattle.promises.specs.Determined.{Determines, Determined}
 use Rattle.promises.proofs.Told.{both, number, truth, bytes}
-use Rattle.wire.proofs as wire
-use Rattle.texts.proofs as texts
-use Rattle.writing.proofs as writing
-use Rattle.masks.proofs as masks
-use Rattle.wording.proofs as wording
-use Rattle.codes.proofs as codes
+use Rattle.wire.specs.contracts as wire
+use Rattle.texts.specs.contracts as texts
+use Rattle.writing.specs.contracts as writing
+use Rattle.masks.specs.contracts as masks
+use Rattle.wording.specs.contracts as wording
+use Rattle.codes.specs.contracts as codes
 
 module _ {M : Type 1} {𝓤 : Ura M} (𝓛 : Logic 𝓤) (mem : Memory → SProp 𝓤) (run : Routine → Fun 𝓤) where
   -- ---- wire

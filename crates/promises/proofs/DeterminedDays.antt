@@ -12,10 +12,10 @@ use Rattle.tynderaxo.specs.Doors.{DayTold, day_told}
 use Rattle.tynderaxo.specs.declared.TynderaxoDay.{TynderaxoDay}
 use Rattle.promises.specs.Determined.{Determined}
 use Rattle.promises.proofs.Told.{results, both, same, number, truth}
-use Rattle.calendar.proofs as calendar
-use Rattle.easter.proofs as easter
-use Rattle.opendays.proofs as opendays
-use Rattle.tynderaxo.proofs as tynderaxo
+use Rattle.calendar.specs.contracts as calendar
+use Rattle.easter.specs.contracts as easter
+use Rattle.opendays.specs.contracts as opendays
+use Rattle.tynderaxo.specs.contracts as tynderaxo
 
 -- what the door for C hands over is the two values of the answer
 day_one : {e : DayTold} {x y : TynderaxoDay} → day_told x ≡ e → day_told y ≡ e → x ≡ y

@@ -15,13 +15,13 @@ use contract.Monad.{Fun}
 use Rattle.promises.specs.Determined.{Determines, Determined}
 use Rattle.promises.proofs.Told.{results, both, number, truth, bytes}
 use Rattle.promises.proofs.Readings.{found_one, routed_one, shape_one, count_one, header_one, message_one, walk_one, bulk_one, places_one, cents_one, side_one, tally_one}
-use Rattle.routing.proofs as routing
-use Rattle.directory.proofs as directory
-use Rattle.sheet.proofs as sheet
-use Rattle.register.proofs as register
-use Rattle.positions.proofs as positions
-use Rattle.tally.proofs as tally
-use Rattle.report.proofs as report
+use Rattle.routing.specs.contracts as routing
+use Rattle.directory.specs.contracts as directory
+use Rattle.sheet.specs.contracts as sheet
+use Rattle.register.specs.contracts as register
+use Rattle.positions.specs.contracts as positions
+use Rattle.tally.specs.contracts as tally
+use Rattle.report.specs.contracts as report
 
 module _ {M : Type 1} {𝓤 : Ura M} (𝓛 : Logic 𝓤) (mem : Memory → SProp 𝓤) (run : Routine → Fun 𝓤) where
   -- ---- routing

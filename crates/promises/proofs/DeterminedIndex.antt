@@ -13,10 +13,10 @@ use contract.Monad.{Fun}
 use Rattle.promises.specs.Determined.{Determined}
 use Rattle.promises.proofs.Told.{results, both, same, number, truth, bytes}
 use Rattle.promises.proofs.IndexReadings.{ended_one, sought_one, indexed_outcomes, index_builts, indexed_one, indexed_door_one, built_one, built_door_one}
-use Rattle.slots.proofs as slots
-use Rattle.index.proofs as index
-use Rattle.judging.proofs as judging
-use Rattle.tynderaxo.proofs as tynderaxo
+use Rattle.slots.specs.contracts as slots
+use Rattle.index.specs.contracts as index
+use Rattle.judging.specs.contracts as judging
+use Rattle.tynderaxo.specs.contracts as tynderaxo
 
 module _ {M : Type 1} {𝓤 : Ura M} (𝓛 : Logic 𝓤) (mem : Memory → SProp 𝓤) (run : Routine → Fun 𝓤) where
   -- ---- slots

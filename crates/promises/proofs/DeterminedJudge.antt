@@ -15,12 +15,12 @@ use Rattle.promises.specs.Determined.{Determined}
 use Rattle.promises.proofs.Told.{results, both, same, number, truth}
 use Rattle.promises.proofs.Readings.{cents_one, checked_one, outcomes, judged_one, door_one, way_one}
 use Rattle.promises.proofs.IndexReadings.{counts_one, messages_left}
-use Rattle.rules.proofs as rules
-use Rattle.faults.proofs as faults
-use Rattle.refusing.proofs as refusing
-use Rattle.messages.proofs as messages
-use Rattle.judging.proofs as judging
-use Rattle.tynderaxo.proofs as tynderaxo
+use Rattle.rules.specs.contracts as rules
+use Rattle.faults.specs.contracts as faults
+use Rattle.refusing.specs.contracts as refusing
+use Rattle.messages.specs.contracts as messages
+use Rattle.judging.specs.contracts as judging
+use Rattle.tynderaxo.specs.contracts as tynderaxo
 
 module _ {M : Type 1} {𝓤 : Ura M} (𝓛 : Logic 𝓤) (mem : Memory → SProp 𝓤) (run : Routine → Fun 𝓤) where
   -- ---- rules

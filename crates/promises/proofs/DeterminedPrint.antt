@@ -16,12 +16,12 @@ use Rattle.frame.specs.Read.{ReadOf}
 use Rattle.printing.specs.Writing.{Answered, AnsweredAll}
 use Rattle.promises.specs.Determined.{Determines, Determined}
 use Rattle.promises.proofs.Told.{both, number, truth, bytes}
-use Rattle.decimals.proofs as decimals
-use Rattle.lines.proofs as lines
-use Rattle.figures.proofs as figures
-use Rattle.sections.proofs as sections
-use Rattle.frame.proofs as frame
-use Rattle.printing.proofs as printing
+use Rattle.decimals.specs.contracts as decimals
+use Rattle.lines.specs.contracts as lines
+use Rattle.figures.specs.contracts as figures
+use Rattle.sections.specs.contracts as sections
+use Rattle.frame.specs.contracts as frame
+use Rattle.printing.specs.contracts as printing
 
 -- ---- what is printed: the place after it, and the buffer
 

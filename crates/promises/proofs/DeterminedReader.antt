@@ -18,17 +18,17 @@ use Rattle.tynderaxo.specs.Doors.{ReadOutcome, read_outcome}
 use Rattle.tynderaxo.specs.declared.TynderaxoReadAnswer.{TynderaxoReadAnswer}
 use Rattle.promises.specs.Determined.{Determines, Determined}
 use Rattle.promises.proofs.Told.{results, both, same, first, second, number, truth, bytes}
-use Rattle.letters.proofs as letters
-use Rattle.tags.proofs as tags
-use Rattle.prose.proofs as prose
-use Rattle.prolog.proofs as prolog
-use Rattle.meanings.proofs as meanings
-use Rattle.paths.proofs as paths
-use Rattle.fields.proofs as fields
-use Rattle.records.proofs as records
-use Rattle.elements.proofs as elements
-use Rattle.reading.proofs as reading
-use Rattle.tynderaxo.proofs as tynderaxo
+use Rattle.letters.specs.contracts as letters
+use Rattle.tags.specs.contracts as tags
+use Rattle.prose.specs.contracts as prose
+use Rattle.prolog.specs.contracts as prolog
+use Rattle.meanings.specs.contracts as meanings
+use Rattle.paths.specs.contracts as paths
+use Rattle.fields.specs.contracts as fields
+use Rattle.records.specs.contracts as records
+use Rattle.elements.specs.contracts as elements
+use Rattle.reading.specs.contracts as reading
+use Rattle.tynderaxo.specs.contracts as tynderaxo
 
 -- ---- what a text says is its bytes and its length
 said_one : {t : List ℕ} {x y : Said} → Kept t x.bytes x.length → Kept t y.bytes y.length → x ≡ y

@@ -5,7 +5,8 @@ use seplogic.Ra.Ura.{Ura}
 use seplogic.Bi.Sat
 use base.Logic.{emp, ent, via, mono_r}
 use prog.Model.{Model}
-use prog.Routine.{Routine}
+use prog.Wired.{Code, Wired}
+use mir.Syntax.{Callee}
 use types.Logic.{Logic, sem}
 use contract.Lifetimes.{Lfts}
 use contract.Monad.{fact, fact_i, fact_mono, fm→mono}
@@ -53,10 +54,10 @@ module _ {M : Type 1} (𝓤 : Ura M) {asked : Asked} (defined : Defined asked) w
       each_meets given out comes = as_defined (comes_defined given out comes)
 
       -- by the rule of consequence, from the contract that the code is proved to meet
-      pub code_meets : (𝓛 : Logic 𝓤) (𝓜 : Model 𝓤 𝓛.H) (𝓡 : Running 𝓤 𝓛.H 𝓜) (routine : Routine)
-          → Meets 𝓛 entry.function.signature (𝓡.run routine) (closing 𝓛 entry.function entry.contract)
-          → CodeMeets 𝓤 𝓛 𝓜 𝓡 entry routine
-      code_meets 𝓛 𝓜 𝓡 routine met =
+      pub code_meets : (𝓛 : Logic 𝓤) (𝓜 : Model 𝓤 𝓛.H) (𝓡 : Running 𝓤 𝓛.H 𝓜) (code : Code) (name : Callee)
+          → (Wired 𝓡.env code → Meets 𝓛 entry.function.signature (𝓡.run (𝓡.env name)) (closing 𝓛 entry.function entry.contract))
+          → CodeMeets 𝓤 𝓛 𝓜 𝓡 entry code name
+      code_meets 𝓛 𝓜 𝓡 code name met wired =
           weaken_under 𝓛 entry.function entry.contract (demanding 𝓤 entry)
           (λ κs a g. tells.ghost κs a)
           (λ κs a g. Unit {0})
@@ -68,6 +69,6 @@ module _ {M : Type 1} (𝓤 : Ura M) {asked : Asked} (defined : Defined asked) w
           let wanted = asked.each (entry.given κs a) (entry.left κs r e) in
           mono_r 𝓤 (sem 𝓛 (lasts entry.function κs a ws))
           (via 𝓤 (fact 𝓤 is) (tells.ensures κs a (tells.ghost κs a) r e) (fact_mono 𝓤 is wanted as_defined)))
-          (𝓡.run routine)
-          (λ vs. fm→mono 𝓤 (𝓡.run routine vs) (run_framed 𝓤 𝓛.H 𝓜 𝓡 routine vs))
-          met
+          (𝓡.run (𝓡.env name))
+          (λ vs. fm→mono 𝓤 (𝓡.run (𝓡.env name) vs) (run_framed 𝓤 𝓛.H 𝓜 𝓡 (𝓡.env name) vs))
+          (met wired)

@@ -11,8 +11,8 @@ use contract.Monad.{Fun}
 use contract.Running.{Running}
 use Rattle.judging.specs.Outcome.{outcome}
 use Rattle.judging.specs.Indexed.{indexed_outcome, index_built}
-use Rattle.judging.proofs as judging
-use Rattle.tynderaxo.proofs as tynderaxo
+use Rattle.judging.proofs as judging_code
+use Rattle.tynderaxo.proofs as tynderaxo_code
 use Rattle.promises.specs.Reading.{Judge}
 use Rattle.promises.specs.Indexed.{IndexedJudge, Builder, AllIndexed}
 use Rattle.promises.specs.Entries.{Entry}
@@ -74,24 +74,24 @@ module _ {M : Type 1} (𝓤 : Ura M) where
   module _ (𝓛 : Logic 𝓤) (𝓜 : Model 𝓤 𝓛.H) (𝓡 : Running 𝓤 𝓛.H 𝓜) where
     pub indexed_judge_code_meets : IndexedJudgeCodeMeets 𝓤 𝓛 𝓜 𝓡
     indexed_judge_code_meets =
-        code_meets 𝓤 indexed_defined _ (indexed_tells 𝓛 𝓜.mem 𝓡.run) indexed_holds 𝓛 𝓜 𝓡
-        judging.judge_indexed.Symbol.routine
-        (judging.judge_indexed.Met.met 𝓤 𝓛 𝓜 𝓡)
+        code_meets 𝓤 indexed_defined _ (indexed_tells 𝓛 𝓜.mem 𝓡.returns) indexed_holds 𝓛 𝓜 𝓡
+        judging_code.judge_indexed.Symbol.code judging_code.judge_indexed.Symbol.name
+        (judging_code.judge_indexed.Met.met 𝓤 𝓛 𝓜 𝓡)
 
     pub indexed_door_code_meets : IndexedDoorCodeMeets 𝓤 𝓛 𝓜 𝓡
     indexed_door_code_meets =
-        code_meets 𝓤 indexed_defined _ (indexed_door_tells 𝓛 𝓜.mem 𝓡.run) indexed_holds 𝓛 𝓜 𝓡
-        tynderaxo.tynderaxo_judge_indexed.Symbol.routine
-        (tynderaxo.tynderaxo_judge_indexed.Met.met 𝓤 𝓛 𝓜 𝓡)
+        code_meets 𝓤 indexed_defined _ (indexed_door_tells 𝓛 𝓜.mem 𝓡.returns) indexed_holds 𝓛 𝓜 𝓡
+        tynderaxo_code.tynderaxo_judge_indexed.Symbol.code tynderaxo_code.tynderaxo_judge_indexed.Symbol.name
+        (tynderaxo_code.tynderaxo_judge_indexed.Met.met 𝓤 𝓛 𝓜 𝓡)
 
     pub builder_code_meets : BuilderCodeMeets 𝓤 𝓛 𝓜 𝓡
     builder_code_meets =
-        code_meets 𝓤 builder_defined _ (builder_tells 𝓛 𝓜.mem 𝓡.run) builder_holds 𝓛 𝓜 𝓡
-        judging.build_index.Symbol.routine
-        (judging.build_index.Met.met 𝓤 𝓛 𝓜 𝓡)
+        code_meets 𝓤 builder_defined _ (builder_tells 𝓛 𝓜.mem 𝓡.returns) builder_holds 𝓛 𝓜 𝓡
+        judging_code.build_index.Symbol.code judging_code.build_index.Symbol.name
+        (judging_code.build_index.Met.met 𝓤 𝓛 𝓜 𝓡)
 
     pub builder_door_code_meets : BuilderDoorCodeMeets 𝓤 𝓛 𝓜 𝓡
     builder_door_code_meets =
-        code_meets 𝓤 builder_defined _ (builder_door_tells 𝓛 𝓜.mem 𝓡.run) builder_holds 𝓛 𝓜 𝓡
-        tynderaxo.tynderaxo_build_index.Symbol.routine
-        (tynderaxo.tynderaxo_build_index.Met.met 𝓤 𝓛 𝓜 𝓡)
+        code_meets 𝓤 builder_defined _ (builder_door_tells 𝓛 𝓜.mem 𝓡.returns) builder_holds 𝓛 𝓜 𝓡
+        tynderaxo_code.tynderaxo_build_index.Symbol.code tynderaxo_code.tynderaxo_build_index.Symbol.name
+        (tynderaxo_code.tynderaxo_build_index.Met.met 𝓤 𝓛 𝓜 𝓡)

@@ -10,8 +10,8 @@ use contract.Monad.{Fun}
 use contract.Running.{Running}
 use Rattle.refusing.specs.Refusals.{Call}
 use Rattle.judging.specs.Outcome.{outcome}
-use Rattle.judging.proofs as judging
-use Rattle.tynderaxo.proofs as tynderaxo
+use Rattle.judging.proofs as judging_code
+use Rattle.tynderaxo.proofs as tynderaxo_code
 use Rattle.promises.specs.Entries.{Entry}
 use Rattle.promises.specs.Code.{Demanded, AllDemands, asked_of_judge, the_judge, the_door, ContractMeets, JudgeCodeMeets, DoorCodeMeets}
 use Rattle.promises.proofs.Cutting.{cut_anywhere}
@@ -56,12 +56,12 @@ module _ {M : Type 1} (𝓤 : Ura M) where
   module _ (𝓛 : Logic 𝓤) (𝓜 : Model 𝓤 𝓛.H) (𝓡 : Running 𝓤 𝓛.H 𝓜) where
     pub judge_code_meets : JudgeCodeMeets 𝓤 𝓛 𝓜 𝓡
     judge_code_meets =
-        code_meets 𝓤 judge_defined (the_judge 𝓤 𝓛 𝓜.mem 𝓡.run) (judge_tells 𝓛 𝓜.mem 𝓡.run) demanded 𝓛 𝓜 𝓡
-        judging.judge.Symbol.routine
-        (judging.judge.Met.met 𝓤 𝓛 𝓜 𝓡)
+        code_meets 𝓤 judge_defined (the_judge 𝓤 𝓛 𝓜.mem 𝓡.returns) (judge_tells 𝓛 𝓜.mem 𝓡.returns) demanded 𝓛 𝓜 𝓡
+        judging_code.judge.Symbol.code judging_code.judge.Symbol.name
+        (judging_code.judge.Met.met 𝓤 𝓛 𝓜 𝓡)
 
     pub door_code_meets : DoorCodeMeets 𝓤 𝓛 𝓜 𝓡
     door_code_meets =
-        code_meets 𝓤 judge_defined (the_door 𝓤 𝓛 𝓜.mem 𝓡.run) (door_tells 𝓛 𝓜.mem 𝓡.run) demanded 𝓛 𝓜 𝓡
-        tynderaxo.tynderaxo_judge.Symbol.routine
-        (tynderaxo.tynderaxo_judge.Met.met 𝓤 𝓛 𝓜 𝓡)
+        code_meets 𝓤 judge_defined (the_door 𝓤 𝓛 𝓜.mem 𝓡.returns) (door_tells 𝓛 𝓜.mem 𝓡.returns) demanded 𝓛 𝓜 𝓡
+        tynderaxo_code.tynderaxo_judge.Symbol.code tynderaxo_code.tynderaxo_judge.Symbol.name
+        (tynderaxo_code.tynderaxo_judge.Met.met 𝓤 𝓛 𝓜 𝓡)

@@ -14,8 +14,10 @@ use Rattle.judging.specs.Outcome.{Outcome, left}
 use Rattle.rules.specs.declared.Terms.{Terms}
 use Rattle.rules.specs.Terms.{dated}
 use Rattle.tynderaxo.specs.Doors.{door_outcome}
-use Rattle.judging.proofs as judging
-use Rattle.tynderaxo.proofs as tynderaxo
+use Rattle.judging.specs.contracts as judging
+use Rattle.judging.proofs as judging_code
+use Rattle.tynderaxo.specs.contracts as tynderaxo
+use Rattle.tynderaxo.proofs as tynderaxo_code
 use Rattle.promises.specs.Reading.{Judge, InBytes}
 use Rattle.promises.specs.Demands.{Refuses, LinesTell, Leaves, RefusesAsWritten, EveryLineTells, LeavesTheRest}
 use Rattle.promises.specs.Cut.{CutsAnywhere}
@@ -95,7 +97,7 @@ module _ {M : Type 1} (𝓤 : Ura M) where
   module _ (𝓛 : Logic 𝓤) (𝓜 : Model 𝓤 𝓛.H) (𝓡 : Running 𝓤 𝓛.H 𝓜) where
     -- the code of `judging::judge`, and that of `tynderaxo_judge`, called with anything, meets the first two demands
     abbrev pub JudgeCodeMeets : Type 1
-    JudgeCodeMeets = CodeMeets 𝓤 𝓛 𝓜 𝓡 (the_judge 𝓛 𝓜.mem 𝓡.run) judging.judge.Symbol.routine
+    JudgeCodeMeets = CodeMeets 𝓤 𝓛 𝓜 𝓡 (the_judge 𝓛 𝓜.mem 𝓡.returns) judging_code.judge.Symbol.code judging_code.judge.Symbol.name
 
     abbrev pub DoorCodeMeets : Type 1
-    DoorCodeMeets = CodeMeets 𝓤 𝓛 𝓜 𝓡 (the_door 𝓛 𝓜.mem 𝓡.run) tynderaxo.tynderaxo_judge.Symbol.routine
+    DoorCodeMeets = CodeMeets 𝓤 𝓛 𝓜 𝓡 (the_door 𝓛 𝓜.mem 𝓡.returns) tynderaxo_code.tynderaxo_judge.Symbol.code tynderaxo_code.tynderaxo_judge.Symbol.name

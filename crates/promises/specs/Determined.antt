@@ -41,9 +41,9 @@ module _ {M : Type 1} (𝓤 : Ura M) (T : Ended) (contract : Clauses 𝓤 T) whe
       → Allows κs a g r ws → Allows κs a g r' ws' → (seen κs r ≡ seen κs r') × (ws ≡ ws')
 
 module _ {M : Type 1} {𝓤 : Ura M} (𝓛 : Logic 𝓤) (mem : Memory → SProp 𝓤) (run : Routine → Fun 𝓤) where
-  -- a contract as Rattle makes it, for every logic in which a proof may stand
+  -- a contract as Rattle makes it, for every logic over 𝓤 in which a proof may stand
   abbrev pub Contract : Ended → Type 2
-  Contract T = (𝓤 : Ura M) (𝓛 : Logic 𝓤) → (Memory → SProp 𝓤) → (Routine → Fun 𝓤) → Clauses 𝓤 T
+  Contract T = (𝓛 : Logic 𝓤) → (Memory → SProp 𝓤) → (Routine → Fun 𝓤) → Clauses 𝓤 T
 
   -- the result itself is determined
   abbrev pub Determined : (T : Ended) → Contract T → Type 1

@@ -4,7 +4,8 @@ use Rattle.std.specs.Prelude.{◌≡◌}
 use seplogic.Ra.Ura.{Ura}
 use base.Logic.{emp}
 use prog.Model.{Model}
-use prog.Routine.{Routine}
+use prog.Wired.{Code, Wired}
+use mir.Syntax.{Callee}
 use types.Logic.{Logic}
 use contract.Lifetimes.{Lfts}
 use contract.Monad.{fact}
@@ -56,7 +57,7 @@ module _ {M : Type 1} (𝓤 : Ura M) {asked : Asked} where
         ensures = λ g r e. fact 𝓤 (asked.each (entry.given κs a) (entry.left κs r e));
       }
 
-  -- a routine, called with anything, meets it
-  abbrev pub CodeMeets : (𝓛 : Logic 𝓤) (𝓜 : Model 𝓤 𝓛.H) (𝓡 : Running 𝓤 𝓛.H 𝓜) → Entry 𝓤 asked → Routine → Type 1
-  CodeMeets 𝓛 𝓜 𝓡 entry routine =
-      Meets 𝓛 entry.function.signature (𝓡.run routine) (closing 𝓛 entry.function (demanding entry))
+  -- code, called by its name with anything, meets it, wherever names stand for that code
+  abbrev pub CodeMeets : (𝓛 : Logic 𝓤) (𝓜 : Model 𝓤 𝓛.H) (𝓡 : Running 𝓤 𝓛.H 𝓜) → Entry 𝓤 asked → Code → Callee → Type 1
+  CodeMeets 𝓛 𝓜 𝓡 entry code name =
+      Wired 𝓡.env code → Meets 𝓛 entry.function.signature (𝓡.run (𝓡.env name)) (closing 𝓛 entry.function (demanding entry))

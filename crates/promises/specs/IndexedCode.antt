@@ -13,8 +13,10 @@ use Rattle.refusing.specs.Refusals.{Call}
 use Rattle.judging.specs.Indexed.{IndexedOutcome, IndexBuilt, indexed_left, built_left}
 use Rattle.rules.specs.Terms.{dated}
 use Rattle.tynderaxo.specs.Doors.{indexed_door_outcome}
-use Rattle.judging.proofs as judging
-use Rattle.tynderaxo.proofs as tynderaxo
+use Rattle.judging.specs.contracts as judging
+use Rattle.judging.proofs as judging_code
+use Rattle.tynderaxo.specs.contracts as tynderaxo
+use Rattle.tynderaxo.proofs as tynderaxo_code
 use Rattle.promises.specs.Reading.{Judge}
 use Rattle.promises.specs.Indexed.{IndexedJudge, Builder, IndexedDemanded, Builds, AllIndexed}
 use Rattle.promises.specs.Entries.{Asked, Entry, EachMeets, AllowedBy, CodeMeets}
@@ -93,13 +95,13 @@ module _ {M : Type 1} (𝓤 : Ura M) where
   module _ (𝓛 : Logic 𝓤) (𝓜 : Model 𝓤 𝓛.H) (𝓡 : Running 𝓤 𝓛.H 𝓜) where
     -- the code of `judging::judge_indexed`, that of `judging::build_index`, and those of their doors, called with anything, meets what is asked
     abbrev pub IndexedJudgeCodeMeets : Type 1
-    IndexedJudgeCodeMeets = CodeMeets 𝓤 𝓛 𝓜 𝓡 (the_indexed_judge 𝓛 𝓜.mem 𝓡.run) judging.judge_indexed.Symbol.routine
+    IndexedJudgeCodeMeets = CodeMeets 𝓤 𝓛 𝓜 𝓡 (the_indexed_judge 𝓛 𝓜.mem 𝓡.returns) judging_code.judge_indexed.Symbol.code judging_code.judge_indexed.Symbol.name
 
     abbrev pub IndexedDoorCodeMeets : Type 1
-    IndexedDoorCodeMeets = CodeMeets 𝓤 𝓛 𝓜 𝓡 (the_indexed_door 𝓛 𝓜.mem 𝓡.run) tynderaxo.tynderaxo_judge_indexed.Symbol.routine
+    IndexedDoorCodeMeets = CodeMeets 𝓤 𝓛 𝓜 𝓡 (the_indexed_door 𝓛 𝓜.mem 𝓡.returns) tynderaxo_code.tynderaxo_judge_indexed.Symbol.code tynderaxo_code.tynderaxo_judge_indexed.Symbol.name
 
     abbrev pub BuilderCodeMeets : Type 1
-    BuilderCodeMeets = CodeMeets 𝓤 𝓛 𝓜 𝓡 (the_builder 𝓛 𝓜.mem 𝓡.run) judging.build_index.Symbol.routine
+    BuilderCodeMeets = CodeMeets 𝓤 𝓛 𝓜 𝓡 (the_builder 𝓛 𝓜.mem 𝓡.returns) judging_code.build_index.Symbol.code judging_code.build_index.Symbol.name
 
     abbrev pub BuilderDoorCodeMeets : Type 1
-    BuilderDoorCodeMeets = CodeMeets 𝓤 𝓛 𝓜 𝓡 (the_builder_door 𝓛 𝓜.mem 𝓡.run) tynderaxo.tynderaxo_build_index.Symbol.routine
+    BuilderDoorCodeMeets = CodeMeets 𝓤 𝓛 𝓜 𝓡 (the_builder_door 𝓛 𝓜.mem 𝓡.returns) tynderaxo_code.tynderaxo_build_index.Symbol.code tynderaxo_code.tynderaxo_build_index.Symbol.name

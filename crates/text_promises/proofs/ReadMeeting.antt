@@ -9,6 +9,8 @@ use base.Logic.{SProp, emp, ent, id⊢, via, mono_r}
 use prog.Model.{Model}
 use prog.Memory.{Memory}
 use prog.Routine.{Routine}
+use prog.Wired.{Code, Wired}
+use mir.Syntax.{Callee}
 use types.Logic.{Logic, sem}
 use contract.Lifetimes.{Lfts}
 use contract.Monad.{Fun, fact, fact_i, fact_mono, fm→mono}
@@ -19,8 +21,8 @@ use denote.Triple.Clauses.{AtExit, at_exit, lasts, closing}
 use denote.Triple.Entry.{Args, Res}
 use denote.Triple.Spec.{Meets}
 use Rattle.tynderaxo.specs.Doors.{ReadOutcome, in_numbers}
-use Rattle.reading.proofs as reading
-use Rattle.tynderaxo.proofs as tynderaxo
+use Rattle.reading.proofs as reading_code
+use Rattle.tynderaxo.proofs as tynderaxo_code
 use Rattle.promises.specs.Reading.{Judge}
 use Rattle.promises.specs.Code.{AllDemands}
 use Rattle.text_promises.specs.Texts.{Reader, the_reader, sheet_left}
@@ -109,10 +111,10 @@ module _ {M : Type 1} (𝓤 : Ura M) where
       ensures : (κs : Lfts entry.function.signature.lifetimes) (a : Args entry.function.signature κs) (r : Res entry.function.signature κs) (e : AtExit entry.function κs)
           → ent 𝓤 ((entry.contract κs a).ensures (ghost κs a) r e) (fact 𝓤 (entry.left κs r e ≡ the_reader (entry.text κs a) (entry.space κs a)))
 
-    code_reads : (entry : ReadEntry 𝓤) (routine : Routine) → Tells entry
-        → Meets 𝓛 entry.function.signature (𝓡.run routine) (closing 𝓛 entry.function entry.contract)
-        → CodeReads 𝓤 𝓛 𝓜 𝓡 entry routine
-    code_reads entry routine told met =
+    code_reads : (entry : ReadEntry 𝓤) (code : Code) (name : Callee) → Tells entry
+        → (Wired 𝓡.env code → Meets 𝓛 entry.function.signature (𝓡.run (𝓡.env name)) (closing 𝓛 entry.function entry.contract))
+        → CodeReads 𝓤 𝓛 𝓜 𝓡 entry code name
+    code_reads entry code name told met wired =
         weaken_under 𝓛 entry.function entry.contract (reading_well 𝓤 entry)
         (λ κs a g. told.ghost κs a)
         (λ κs a g. Unit {0})
@@ -123,18 +125,18 @@ module _ {M : Type 1} (𝓤 : Ura M) where
         let is = entry.left κs r e ≡ the_reader (entry.text κs a) (entry.space κs a) in
         let asked = WellRead (entry.text κs a) (entry.space κs a) (entry.left κs r e) in
         mono_r 𝓤 (sem 𝓛 (lasts entry.function κs a ws)) (via 𝓤 (fact 𝓤 is) (told.ensures κs a r e) (fact_mono 𝓤 is asked as_well)))
-        (𝓡.run routine)
-        (λ vs. fm→mono 𝓤 (𝓡.run routine vs) (run_framed 𝓤 H 𝓜 𝓡 routine vs))
-        met
+        (𝓡.run (𝓡.env name))
+        (λ vs. fm→mono 𝓤 (𝓡.run (𝓡.env name) vs) (run_framed 𝓤 H 𝓜 𝓡 (𝓡.env name) vs))
+        (met wired)
 
     pub read_code_meets : ReadCodeMeets 𝓤 𝓛 𝓜 𝓡
     read_code_meets =
-        code_reads (the_read 𝓤 𝓛 𝓜.mem 𝓡.run) reading.read.Symbol.routine
+        code_reads (the_read 𝓤 𝓛 𝓜.mem 𝓡.returns) reading_code.read.Symbol.code reading_code.read.Symbol.name
         (record { ghost = λ κs a. tt; requires = λ κs a. id⊢ 𝓤 (emp 𝓤); ensures = λ κs a r e. fact_mono 𝓤 _ _ (λ told. ap in_numbers told) })
-        (reading.read.Met.met 𝓤 𝓛 𝓜 𝓡)
+        (reading_code.read.Met.met 𝓤 𝓛 𝓜 𝓡)
 
     pub read_door_code_meets : ReadDoorCodeMeets 𝓤 𝓛 𝓜 𝓡
     read_door_code_meets =
-        code_reads (the_read_door 𝓤 𝓛 𝓜.mem 𝓡.run) tynderaxo.tynderaxo_read.Symbol.routine
+        code_reads (the_read_door 𝓤 𝓛 𝓜.mem 𝓡.returns) tynderaxo_code.tynderaxo_read.Symbol.code tynderaxo_code.tynderaxo_read.Symbol.name
         (record { ghost = λ κs a. tt; requires = λ κs a. id⊢ 𝓤 (emp 𝓤); ensures = λ κs a r e. id⊢ 𝓤 _ })
-        (tynderaxo.tynderaxo_read.Met.met 𝓤 𝓛 𝓜 𝓡)
+        (tynderaxo_code.tynderaxo_read.Met.met 𝓤 𝓛 𝓜 𝓡)

@@ -6,6 +6,8 @@ use base.Logic.{SProp, emp}
 use prog.Model.{Model}
 use prog.Memory.{Memory}
 use prog.Routine.{Routine}
+use prog.Wired.{Code, Wired}
+use mir.Syntax.{Callee}
 use types.Logic.{Logic}
 use contract.Lifetimes.{Lfts}
 use contract.Monad.{Fun, fact}
@@ -15,8 +17,10 @@ use denote.Triple.Spec.{Meets}
 use denote.Triple.Clauses.{Ended, Clauses, Lasts, AtExit, at_exit, closing}
 use Rattle.reading.specs.Reading.{outcome}
 use Rattle.tynderaxo.specs.Doors.{ReadOutcome, read_outcome, in_numbers}
-use Rattle.reading.proofs as reading
-use Rattle.tynderaxo.proofs as tynderaxo
+use Rattle.reading.specs.contracts as reading
+use Rattle.reading.proofs as reading_code
+use Rattle.tynderaxo.specs.contracts as tynderaxo
+use Rattle.tynderaxo.proofs as tynderaxo_code
 use Rattle.promises.specs.Reading.{Judge}
 use Rattle.promises.specs.Determined.{Allows}
 use Rattle.promises.specs.Code.{AllDemands}
@@ -109,14 +113,14 @@ module _ {M : Type 1} (𝓤 : Ura M) where
       }
 
   module _ (𝓛 : Logic 𝓤) (𝓜 : Model 𝓤 𝓛.H) (𝓡 : Running 𝓤 𝓛.H 𝓜) where
-    -- a routine, called with anything, meets it
-    abbrev pub CodeReads : ReadEntry → Routine → Type 1
-    CodeReads entry routine =
-        Meets 𝓛 entry.function.signature (𝓡.run routine) (closing 𝓛 entry.function (reading_well entry))
+    -- code, called by its name with anything, meets it, wherever names stand for that code
+    abbrev pub CodeReads : ReadEntry → Code → Callee → Type 1
+    CodeReads entry code name =
+        Wired 𝓡.env code → Meets 𝓛 entry.function.signature (𝓡.run (𝓡.env name)) (closing 𝓛 entry.function (reading_well entry))
 
     -- the code of `reading::read`, and that of `tynderaxo_read`
     abbrev pub ReadCodeMeets : Type 1
-    ReadCodeMeets = CodeReads (the_read 𝓛 𝓜.mem 𝓡.run) reading.read.Symbol.routine
+    ReadCodeMeets = CodeReads (the_read 𝓛 𝓜.mem 𝓡.returns) reading_code.read.Symbol.code reading_code.read.Symbol.name
 
     abbrev pub ReadDoorCodeMeets : Type 1
-    ReadDoorCodeMeets = CodeReads (the_read_door 𝓛 𝓜.mem 𝓡.run) tynderaxo.tynderaxo_read.Symbol.routine
+    ReadDoorCodeMeets = CodeReads (the_read_door 𝓛 𝓜.mem 𝓡.returns) tynderaxo_code.tynderaxo_read.Symbol.code tynderaxo_code.tynderaxo_read.Symbol.name
