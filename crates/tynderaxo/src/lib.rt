@@ -1,5 +1,5 @@
-// The doors for C: the proved judge, plain and with an index, lookup, reader and open days under C's calling convention, and nothing else. A caller owes what
-// include/tynderaxo.h says: pointers that are valid for their lengths, and no written buffer over another.
+// The doors: the proved judge, plain and with an index, lookup, reader and open days, each taking and giving what crosses to C, and nothing else. The crate
+// tynderaxo_c exports each of them to C, under its own name and with its own contract: a library exports nothing itself.
 #![tactic(auto)]
 
 ghost use Rattle.std.specs.Prelude.{◌≡◌};
@@ -59,8 +59,7 @@ pub struct TynderaxoDay {
     pub value: u32,
 }
 
-#[unsafe(no_mangle)]
-pub extern "C" fn tynderaxo_judge(
+pub fn tynderaxo_judge(
     date: u32,
     sheet: &[u8],
     table: &[u8],
@@ -77,8 +76,7 @@ pub extern "C" fn tynderaxo_judge(
     }
 }
 
-#[unsafe(no_mangle)]
-pub extern "C" fn tynderaxo_judge_indexed(
+pub fn tynderaxo_judge_indexed(
     date: u32,
     sheet: &[u8],
     table: &[u8],
@@ -107,15 +105,13 @@ pub extern "C" fn tynderaxo_judge_indexed(
 }
 
 // The number of a refusal, 4 or 12, or 0 for an index that was built.
-#[unsafe(no_mangle)]
-pub extern "C" fn tynderaxo_build_index(register: &[u8], index: &mut [u8]) -> u32
+pub fn tynderaxo_build_index(register: &[u8], index: &mut [u8]) -> u32
     ensures { record { number = result; index = index.new } ≡ index_built register.now index.old }
 {
     judging::number_built(judging::build_index(register, index))
 }
 
-#[unsafe(no_mangle)]
-pub extern "C" fn tynderaxo_lookup(date: u32, table: &[u8], bic: &[u8]) -> TynderaxoRoute
+pub fn tynderaxo_lookup(date: u32, table: &[u8], bic: &[u8]) -> TynderaxoRoute
     ensures { routed_by result ≡ lookup date table.now bic.now }
 {
     let answer = routing::lookup(date, table, bic);
@@ -141,8 +137,7 @@ pub extern "C" fn tynderaxo_lookup(date: u32, table: &[u8], bic: &[u8]) -> Tynde
     }
 }
 
-#[unsafe(no_mangle)]
-pub extern "C" fn tynderaxo_read(document: &[u8], sheet: &mut [u8]) -> TynderaxoReadAnswer
+pub fn tynderaxo_read(document: &[u8], sheet: &mut [u8]) -> TynderaxoReadAnswer
     ensures { read_outcome result sheet.new ≡ in_numbers (reads document.now sheet.old) }
 {
     let reading = reading::read(document, sheet);
@@ -153,8 +148,7 @@ pub extern "C" fn tynderaxo_read(document: &[u8], sheet: &mut [u8]) -> Tynderaxo
     }
 }
 
-#[unsafe(no_mangle)]
-pub extern "C" fn tynderaxo_open_day(date: u32) -> TynderaxoDay
+pub fn tynderaxo_open_day(date: u32) -> TynderaxoDay
     ensures { day_told result ≡ day_in_numbers (open_day_answer date) }
 {
     let answer = opendays::open_day(date);
@@ -164,8 +158,7 @@ pub extern "C" fn tynderaxo_open_day(date: u32) -> TynderaxoDay
     }
 }
 
-#[unsafe(no_mangle)]
-pub extern "C" fn tynderaxo_next_open_day(date: u32) -> TynderaxoDay
+pub fn tynderaxo_next_open_day(date: u32) -> TynderaxoDay
     ensures { day_told result ≡ day_in_numbers (next_open_day_answer date) }
 {
     let answer = opendays::next_open_day(date);
@@ -175,8 +168,7 @@ pub extern "C" fn tynderaxo_next_open_day(date: u32) -> TynderaxoDay
     }
 }
 
-#[unsafe(no_mangle)]
-pub extern "C" fn tynderaxo_open_days(from: u32, to: u32) -> TynderaxoDay
+pub fn tynderaxo_open_days(from: u32, to: u32) -> TynderaxoDay
     ensures { day_told result ≡ day_in_numbers (open_days_answer from to) }
 {
     let answer = opendays::open_days(from, to);
