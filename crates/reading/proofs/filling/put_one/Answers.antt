@@ -5,4 +5,4 @@ use Rattle.reading.proofs.filling.put_one.Goals as goal
 pub returns : goal.returns
 returns c =
     let told = c.after-next.ensures in
-    record { next = told.0; notes = told.1 ∙ (rw c.forget.ensures); written = c.put_message.ensures }
+    record { next = told.next; notes = told.notes ∙ (rw c.forget.ensures); written = c.put_message.ensures }
