@@ -157,7 +157,7 @@ fn read_full<R: Read>(from: &mut R, buffer: &mut [u8]) -> io::Result<usize>
     let mut done = 0;
     for _ in 0..u64::MAX {
         if done >= buffer.len() {
-            return Ok(done);
+            return Ok(buffer.len());
         }
         match from.read(&mut buffer[done..]) {
             Ok(0) => return Ok(done),
