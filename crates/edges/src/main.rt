@@ -150,7 +150,7 @@ fn read_all(rt: &impl Print, script: &[u8], text: &mut [u8]) -> io::Result<()> {
 }
 
 // Reads until the buffer is full or the input ends, and answers how many bytes it put at the buffer's start. What is longer than the
-// buffer is left unread. A read that a signal cut short is made again.
+// buffer is left unread. A read that a signal interrupts is made again. After 2^64 - 1 reads it gives up with an error, as std does.
 fn read_full<R: Read>(from: &mut R, buffer: &mut [u8]) -> io::Result<usize>
     ensures { IfOk result (λ n. n ≤ length buffer.new) }
 {

@@ -1,7 +1,8 @@
 // The program: reads standard input, and writes out the response that the crate printing proves. What is not proved is what any
-// program's reading and writing rests on: that the bytes come in and go out as they are, and that each of them comes in until the
-// input ends. A read or a write that fails ends the program with an error. That both buffers are long enough for an input of any
-// length is part of what `respond_all` tells.
+// program's reading and writing rests on: that the bytes come in and go out as they are. Nor is it proved that `read_full` reads on to
+// the input's end or the buffer's: proved of it is that it is safe, ends and answers no more than the buffer's length. A read or a
+// write that fails ends the program with an error. That both buffers are long enough for an input of any length is part of what
+// `respond_all` tells.
 #![tactic(auto)]
 
 ghost use Rattle.std.specs.Prelude.{◌≤◌, length, IfOk};
@@ -12,7 +13,7 @@ use std::io;
 use std::io::{Error, ErrorKind, Read};
 
 // Reads until the buffer is full or the input ends, and answers how many bytes it put at the buffer's start. What is longer than the
-// buffer is left unread. A read that a signal cut short is made again.
+// buffer is left unread. A read that a signal interrupts is made again. After 2^64 - 1 reads it gives up with an error, as std does.
 fn read_full<R: Read>(from: &mut R, buffer: &mut [u8]) -> io::Result<usize>
     ensures { IfOk result (λ n. n ≤ length buffer.new) }
 {
