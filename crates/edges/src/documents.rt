@@ -1,6 +1,7 @@
 // The text of documents that lines write, and what it is read as.
 use crate::{say, words};
 use reading::Reading;
+use std::io;
 
 const MOST_TEXT: usize = 4096;
 
@@ -66,24 +67,25 @@ fn kept(space: &[u8]) -> u64 {
 }
 
 // Reads the text into the space, and tells what comes of it.
-fn told(text: &[u8], space: &mut [u8]) {
+fn told(rt: &impl Print, text: &[u8], space: &mut [u8]) -> io::Result<()> {
     let answer = reading::read(text, space);
     match answer {
-        Reading::Made(n) => say::sheet(n, space),
-        _ => say::stop(reading::number_of(answer), reading::place_in(answer)),
+        Reading::Made(n) => say::sheet(rt, n, space)?,
+        _ => say::stop(rt, reading::number_of(answer), reading::place_in(answer))?,
     }
-    say::kept(kept(space));
+    say::kept(rt, kept(space))
 }
 
 // The same with so many bytes of the space, where it has them.
-fn told_within(text: &[u8], space: &mut [u8], room: usize) {
+fn told_within(rt: &impl Print, text: &[u8], space: &mut [u8], room: usize) -> io::Result<()> {
     if room <= space.len() {
-        told(text, &mut space[..room]);
+        told(rt, text, &mut space[..room])?;
     }
+    Ok(())
 }
 
 // Reads the text into a space of so many bytes.
-pub(crate) fn read(text: &[u8], room: usize) {
+pub(crate) fn read(rt: &impl Print, text: &[u8], room: usize) -> io::Result<()> {
     let mut space = [MARK; MOST_SPACE];
-    told_within(text, &mut space, room);
+    told_within(rt, text, &mut space, room)
 }

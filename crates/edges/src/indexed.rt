@@ -2,6 +2,7 @@
 use crate::{files, say, words};
 use judging::{Answer, Building};
 use rules::Terms;
+use std::io;
 
 const MOST_INDEX: usize = 64;
 
@@ -37,25 +38,26 @@ fn built(register: &[u8], index: &mut [u8]) -> Building {
 }
 
 // The index that was built, or why none was and how many bytes are as they were.
-fn tell_built(register: &[u8], index: &mut [u8]) {
+fn tell_built(rt: &impl Print, register: &[u8], index: &mut [u8]) -> io::Result<()> {
     let building = built(register, index);
     match building {
         Building::Built => {
-            say::slots(index);
-            say::text(b"\n");
+            say::slots(rt, index)?;
+            say::text(rt, b"\n")
         }
         Building::Unbuilt(_) => {
-            say::refused(judging::number_built(building));
-            say::kept(kept(&empty(), index));
+            say::refused(rt, judging::number_built(building))?;
+            say::kept(rt, kept(&empty(), index))
         }
     }
 }
 
 // The same in so many bytes of the index, where it has them.
-fn build(register: &[u8], index: &mut [u8], room: usize) {
+fn build(rt: &impl Print, register: &[u8], index: &mut [u8], room: usize) -> io::Result<()> {
     if room <= index.len() {
-        tell_built(register, &mut index[..room]);
+        tell_built(rt, register, &mut index[..room])?;
     }
+    Ok(())
 }
 
 fn copy(index: &[u8]) -> [u8; MOST_INDEX] {
@@ -65,16 +67,16 @@ fn copy(index: &[u8]) -> [u8; MOST_INDEX] {
 }
 
 // The index that a judgement left, and how many of its bytes are those of the one built anew.
-fn tell_left(register: &[u8], index: &mut [u8]) {
-    say::text(b"; ");
-    say::slots(index);
+fn tell_left(rt: &impl Print, register: &[u8], index: &mut [u8]) -> io::Result<()> {
+    say::text(rt, b"; ")?;
+    say::slots(rt, index)?;
     let left = copy(index);
     built(register, index);
-    say::as_built(kept(&left, index));
+    say::as_built(rt, kept(&left, index))
 }
 
 // Judges the sheet by the index, and tells what comes of it.
-fn judge(sheet: &[u8], register: &mut [u8], index: &mut [u8]) {
+fn judge(rt: &impl Print, sheet: &[u8], register: &mut [u8], index: &mut [u8]) -> io::Result<()> {
     let date = files::TODAY;
     let table = files::table();
     let mut positions = [0u8; 24];
@@ -92,56 +94,72 @@ fn judge(sheet: &[u8], register: &mut [u8], index: &mut [u8]) {
     let answer = told.answer;
     match answer {
         Answer::Refused(_) => {
-            say::refused(judging::number_of(answer));
-            say::read(told.slots);
-            say::kept(kept(&before, index));
+            say::refused(rt, judging::number_of(answer))?;
+            say::read(rt, told.slots)?;
+            say::kept(rt, kept(&before, index))
         }
         Answer::Judged(length) => {
-            say::outcome(register, wire::text_at(&report, 0, length));
-            say::read(told.slots);
-            tell_left(register, index);
+            say::outcome(rt, register, wire::text_at(&report, 0, length))?;
+            say::read(rt, told.slots)?;
+            tell_left(rt, register, index)
         }
     }
 }
 
 // The same with so many bytes of the register and of the index, where they have them.
 fn judge_within(
+    rt: &impl Print,
     sheet: &[u8],
     register: &mut [u8],
     index: &mut [u8],
     register_room: usize,
     room: usize,
-) {
+) -> io::Result<()> {
     if register_room <= register.len() {
         if room <= index.len() {
-            judge(sheet, &mut register[..register_room], &mut index[..room]);
+            judge(
+                rt,
+                sheet,
+                &mut register[..register_room],
+                &mut index[..room],
+            )?;
         }
     }
+    Ok(())
 }
 
 // A line that builds or changes the index, or has a file judged by it.
-pub(crate) fn step(line: &[u8], sheet: &[u8], register: &mut [u8], index: &mut [u8]) {
+pub(crate) fn step(
+    rt: &impl Print,
+    line: &[u8],
+    sheet: &[u8],
+    register: &mut [u8],
+    index: &mut [u8],
+) -> io::Result<()> {
     let first = words::count(line, 1) as usize;
     match wire::u8_at(line, 0) {
         b'i' => {
-            say::title(words::rest(line, 3));
+            say::title(rt, words::rest(line, 3))?;
             build(
+                rt,
                 wire::text_at(register, 0, first),
                 index,
                 words::count(line, 2) as usize,
-            );
+            )?;
         }
         b's' => {
-            say::title(words::rest(line, 3));
+            say::title(rt, words::rest(line, 3))?;
             judge_within(
+                rt,
                 files::whole(sheet),
                 register,
                 index,
                 first,
                 words::count(line, 2) as usize,
-            );
+            )?;
         }
         b'g' => writing::put_number(index, SLOT * first, SLOT, words::number(line, 2)),
         _ => {}
     }
+    Ok(())
 }

@@ -2,6 +2,7 @@
 ghost use Rattle.std.specs.Prelude.{◌<◌};
 
 use crate::words;
+use std::io;
 
 // A longer report is told by its length.
 const MOST_SHOWN: usize = 1000;
@@ -13,185 +14,192 @@ const HEADER: usize = 65;
 
 const SLOT: usize = 4;
 
-pub(crate) fn text(words: &[u8]) {
-    io::write_all(libc::STDOUT_FILENO, words);
+pub(crate) fn text(rt: &impl Print, words: &[u8]) -> io::Result<()> {
+    rt.write_all(words)
 }
 
-fn number(v: u64) {
-    io::print_decimal(libc::STDOUT_FILENO, v);
+fn number(rt: &impl Print, v: u64) -> io::Result<()> {
+    rt.print(v)
 }
 
 // A number, and the line's end.
-fn last(v: u64) {
-    number(v);
-    text(b"\n");
+fn last(rt: &impl Print, v: u64) -> io::Result<()> {
+    number(rt, v)?;
+    text(rt, b"\n")
 }
 
-pub(crate) fn title(words: &[u8]) {
-    text(words);
-    text(b": ");
+pub(crate) fn title(rt: &impl Print, words: &[u8]) -> io::Result<()> {
+    text(rt, words)?;
+    text(rt, b": ")
 }
 
 // A date is told by its own line.
-pub(crate) fn date(line: &[u8], is: bool) {
-    text(line);
+pub(crate) fn date(rt: &impl Print, line: &[u8], is: bool) -> io::Result<()> {
+    text(rt, line)?;
     if is {
-        title(b", in the calendar");
+        title(rt, b", in the calendar")
     } else {
-        title(b", not in the calendar");
+        title(rt, b", not in the calendar")
     }
 }
 
-pub(crate) fn refused(number_of_it: u32) {
-    text(b"refusal ");
-    number(number_of_it as u64);
+pub(crate) fn refused(rt: &impl Print, number_of_it: u32) -> io::Result<()> {
+    text(rt, b"refusal ")?;
+    number(rt, number_of_it as u64)
 }
 
-pub(crate) fn refusal(number_of_it: u32) {
-    refused(number_of_it);
-    text(b"\n");
+pub(crate) fn refusal(rt: &impl Print, number_of_it: u32) -> io::Result<()> {
+    refused(rt, number_of_it)?;
+    text(rt, b"\n")
 }
 
-pub(crate) fn value(v: u32) {
-    last(v as u64);
+pub(crate) fn value(rt: &impl Print, v: u32) -> io::Result<()> {
+    last(rt, v as u64)
 }
 
-pub(crate) fn open(is: bool) {
+pub(crate) fn open(rt: &impl Print, is: bool) -> io::Result<()> {
     if is {
-        text(b"open\n");
+        text(rt, b"open\n")
     } else {
-        text(b"closed\n");
+        text(rt, b"closed\n")
     }
 }
 
-fn bit(faults: u16, k: u16)
+fn bit(rt: &impl Print, faults: u16, k: u16) -> io::Result<()>
     requires { k < 16 }
 {
     if masks::shows(faults, k) {
-        text(b" ");
-        number(k as u64);
+        text(rt, b" ")?;
+        number(rt, k as u64)?;
     }
+    Ok(())
 }
 
 // The bits that a mask shows, the lowest first.
-fn bits(faults: u16) {
+fn bits(rt: &impl Print, faults: u16) -> io::Result<()> {
     if faults == 0 {
-        text(b", no bits");
-        return;
+        return text(rt, b", no bits");
     }
-    text(b", bits");
+    text(rt, b", bits")?;
     let mut k: u16 = 0;
     while k < 16 {
-        bit(faults, k);
+        bit(rt, faults, k)?;
         k += 1;
     }
+    Ok(())
 }
 
 // The outcome's word, and the faults.
-fn line(outcomes: &[u8], line: &[u8]) {
-    text(words::word(outcomes, report::outcome_in(line) as usize));
-    bits(report::faults_in(line));
+fn line(rt: &impl Print, outcomes: &[u8], line: &[u8]) -> io::Result<()> {
+    text(rt, words::word(outcomes, report::outcome_in(line) as usize))?;
+    bits(rt, report::faults_in(line))
 }
 
 // The message lines of a bulk, which follow their count.
-fn messages(section: &[u8]) {
+fn messages(rt: &impl Print, section: &[u8]) -> io::Result<()> {
     let count = wire::u32_at(section, 0);
     let mut i: u32 = 0;
     while i < count {
-        text(b"; message ");
+        text(rt, b"; message ")?;
         line(
+            rt,
             b"accepted rejected fell",
             report::message_line_at(section, i as usize),
-        );
+        )?;
         i += 1;
     }
+    Ok(())
 }
 
-fn bulk(report: &[u8]) {
-    text(b"bulk ");
+fn bulk(rt: &impl Print, report: &[u8]) -> io::Result<()> {
+    text(rt, b"bulk ")?;
     line(
+        rt,
         b"accepted partial rejected",
         report::bulk_line_at(report, 0),
-    );
-    messages(wire::text_at(report, report::sections_at(1), report.len()));
+    )?;
+    messages(
+        rt,
+        wire::text_at(report, report::sections_at(1), report.len()),
+    )
 }
 
-fn size(length: usize) {
-    text(b"report of ");
-    number(length as u64);
-    text(b" bytes");
+fn size(rt: &impl Print, length: usize) -> io::Result<()> {
+    text(rt, b"report of ")?;
+    number(rt, length as u64)?;
+    text(rt, b" bytes")
 }
 
 // The report of one bulk, and how many entries of the register are used after it.
-pub(crate) fn outcome(register: &[u8], report: &[u8]) {
+pub(crate) fn outcome(rt: &impl Print, register: &[u8], report: &[u8]) -> io::Result<()> {
     if (report.len() <= 4) | (MOST_SHOWN < report.len()) {
-        size(report.len());
+        size(rt, report.len())?;
     } else {
-        bulk(report);
+        bulk(rt, report)?;
     }
-    text(b"; register holds ");
-    number(register::used(register) as u64);
+    text(rt, b"; register holds ")?;
+    number(rt, register::used(register) as u64)
 }
 
-pub(crate) fn report(register: &[u8], report: &[u8]) {
-    outcome(register, report);
-    text(b"\n");
+pub(crate) fn report(rt: &impl Print, register: &[u8], report: &[u8]) -> io::Result<()> {
+    outcome(rt, register, report)?;
+    text(rt, b"\n")
 }
 
 // The slots of an index.
-pub(crate) fn slots(index: &[u8]) {
+pub(crate) fn slots(rt: &impl Print, index: &[u8]) -> io::Result<()> {
     if index.len() == 0 {
-        text(b"no slots");
-        return;
+        return text(rt, b"no slots");
     }
-    text(b"slots");
+    text(rt, b"slots")?;
     let mut i = 0;
     while i < index.len() / SLOT {
-        text(b" ");
-        number(wire::u32_at(index, SLOT * i) as u64);
+        text(rt, b" ")?;
+        number(rt, wire::u32_at(index, SLOT * i) as u64)?;
         i += 1;
     }
+    Ok(())
 }
 
 // How many slots the searches read.
-pub(crate) fn read(slots: u64) {
-    text(b"; slots read ");
-    number(slots);
+pub(crate) fn read(rt: &impl Print, slots: u64) -> io::Result<()> {
+    text(rt, b"; slots read ")?;
+    number(rt, slots)
 }
 
-pub(crate) fn as_built(bytes: u64) {
-    text(b"; bytes as built ");
-    last(bytes);
+pub(crate) fn as_built(rt: &impl Print, bytes: u64) -> io::Result<()> {
+    text(rt, b"; bytes as built ")?;
+    last(rt, bytes)
 }
 
 // The row that a lookup found.
-pub(crate) fn row(place: usize, reachable: bool) {
-    text(b"row ");
-    number(place as u64);
+pub(crate) fn row(rt: &impl Print, place: usize, reachable: bool) -> io::Result<()> {
+    text(rt, b"row ")?;
+    number(rt, place as u64)?;
     if reachable {
-        text(b", reachable\n");
+        text(rt, b", reachable\n")
     } else {
-        text(b", not reachable\n");
+        text(rt, b", not reachable\n")
     }
 }
 
 // The sheet that was read, by its length and the amount of its first message.
-pub(crate) fn sheet(length: usize, sheet: &[u8]) {
-    text(b"sheet of ");
-    number(length as u64);
-    text(b" bytes, amount ");
+pub(crate) fn sheet(rt: &impl Print, length: usize, sheet: &[u8]) -> io::Result<()> {
+    text(rt, b"sheet of ")?;
+    number(rt, length as u64)?;
+    text(rt, b" bytes, amount ")?;
     let bulks = wire::u32_at(sheet, 0) as usize;
-    number(wire::u64_at(sheet, AMOUNT + HEADER * bulks));
+    number(rt, wire::u64_at(sheet, AMOUNT + HEADER * bulks))
 }
 
 // Why a text is no sheet, and where that was met.
-pub(crate) fn stop(number_of_it: u32, place: usize) {
-    refused(number_of_it);
-    text(b" at ");
-    number(place as u64);
+pub(crate) fn stop(rt: &impl Print, number_of_it: u32, place: usize) -> io::Result<()> {
+    refused(rt, number_of_it)?;
+    text(rt, b" at ")?;
+    number(rt, place as u64)
 }
 
-pub(crate) fn kept(bytes: u64) {
-    text(b"; bytes kept ");
-    last(bytes);
+pub(crate) fn kept(rt: &impl Print, bytes: u64) -> io::Result<()> {
+    text(rt, b"; bytes kept ")?;
+    last(rt, bytes)
 }
