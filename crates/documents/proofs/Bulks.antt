@@ -27,8 +27,8 @@ use Rattle.documents.proofs.Headers.{method_told, system_told, marks_back, recip
 -- ---- the texts of a header
 
 pub record HeaderTexts (brief : Brevity) (w : Markup) (h : List ℕ) : Type 0 where
-  pub identifier_is_lem : text_in roles.bulk_identifier w [] ≡ worded brief roles.bulk_identifier (bulk_identifier_of h)
-  pub number_is_lem : text_in roles.stated_number w [] ≡ decimal_text (stated_number_of h)
+  pub identifier_is : text_in roles.bulk_identifier w [] ≡ worded brief roles.bulk_identifier (bulk_identifier_of h)
+  pub number_is : text_in roles.stated_number w [] ≡ decimal_text (stated_number_of h)
   pub sum_is : text_in roles.stated_sum w [] ≡ euro_text (stated_sum_of h)
   pub date_is : text_in roles.value_date w [] ≡ date_text (value_date_of h)
   pub method_is : text_in roles.method w [] ≡ method_text (clears (marks_of h))
@@ -41,7 +41,7 @@ texts_back brief w h c texts kind =
     let marks : bit (is_clearing (text_in roles.method w [])) + 2 * bit (is_system (text_in roles.system w [])) + 4 * bit (there_in roles.recipient w false) ≡ marks_of h =
     rw (texts.method_is, texts.system_is, texts.recipient_is, method_told (clears (marks_of h)), system_told (own_system (marks_of h))) (marks_back (marks_of h) c.marks) in
     header_together h c _ _ _ _ _ _ _ kind
-    (ap (field_bytes roles.bulk_identifier) texts.identifier_is_lem ∙ (identifier h c brief).back)
+    (ap (field_bytes roles.bulk_identifier) texts.identifier_is ∙ (identifier h c brief).back)
     (ap (field_bytes roles.sender) texts.sender_is ∙ (sender h c brief).back)
     (ap (field_bytes roles.stated_number) texts.number_is ∙ (number h c).back)
     (ap (field_bytes roles.stated_sum) texts.sum_is ∙ (total h c).back)
@@ -77,8 +77,8 @@ module _ (brief : Brevity) (b : Bulk) (c : CarriedBulk b) (kind : kind_of b.head
   payments_texts =
       let r = received (marks_of h) in
       record {
-        identifier_is_lem = silent roles.bulk_identifier (λ m t. refl) _ ∙ recipient_silent roles.bulk_identifier r (worded brief roles.bulk_identifier (bulk_identifier_of h));
-        number_is_lem = silent roles.stated_number (λ m t. refl) _ ∙ recipient_silent roles.stated_number r (decimal_text (stated_number_of h));
+        identifier_is = silent roles.bulk_identifier (λ m t. refl) _ ∙ recipient_silent roles.bulk_identifier r (worded brief roles.bulk_identifier (bulk_identifier_of h));
+        number_is = silent roles.stated_number (λ m t. refl) _ ∙ recipient_silent roles.stated_number r (decimal_text (stated_number_of h));
         sum_is = silent roles.stated_sum (λ m t. refl) _ ∙ recipient_silent roles.stated_sum r (euro_text (stated_sum_of h));
         date_is = silent roles.value_date (λ m t. refl) _ ∙ recipient_silent roles.value_date r (date_text (value_date_of h));
         method_is = silent roles.method (λ m t. refl) _ ∙ recipient_silent roles.method r (method_text (clears (marks_of h)));
@@ -151,8 +151,8 @@ module _ (brief : Brevity) (b : Bulk) (c : CarriedBulk b) (kind : kind_of b.head
   returns_texts =
       let r = received (marks_of head) in
       record {
-        identifier_is_lem = hushed roles.bulk_identifier (λ m t. refl) _ ∙ recipient_silent roles.bulk_identifier r (worded brief roles.bulk_identifier (bulk_identifier_of head));
-        number_is_lem = hushed roles.stated_number (λ m t. refl) _ ∙ recipient_silent roles.stated_number r (decimal_text (stated_number_of head));
+        identifier_is = hushed roles.bulk_identifier (λ m t. refl) _ ∙ recipient_silent roles.bulk_identifier r (worded brief roles.bulk_identifier (bulk_identifier_of head));
+        number_is = hushed roles.stated_number (λ m t. refl) _ ∙ recipient_silent roles.stated_number r (decimal_text (stated_number_of head));
         sum_is = hushed roles.stated_sum (λ m t. refl) _ ∙ recipient_silent roles.stated_sum r (euro_text (stated_sum_of head));
         date_is = hushed roles.value_date (λ m t. refl) _ ∙ recipient_silent roles.value_date r (date_text (value_date_of head));
         method_is = hushed roles.method (λ m t. refl) _ ∙ recipient_silent roles.method r (method_text (clears (marks_of head)));
