@@ -13,11 +13,11 @@ loop-i-preserved c =
     let loop = c.loop-i in
     let left = c.loop-i-test.true in
     elim c.if-i-room.branch [
-      then-i-room w ↦ (
+      | then-i-room w ↦ (
         simp (w.out-is, length-set) loop.invariant.0,
         rw w.out-is (digits_last loop.out args.at loop.i loop.rest left ∙ loop.invariant.1),
       )
-    | else-i-room w ↦ (
+      | else-i-room w ↦ (
         rw w.out-is loop.invariant.0,
         rw w.out-is (digits_last_out loop.out args.at loop.i loop.rest left (omega arith) ∙ loop.invariant.1),
       )

@@ -39,7 +39,7 @@ pub content-loop-p-smaller : goal.content-loop-p-smaller
 content-loop-p-smaller t c = let on = text_forward c.args.s.now c.loop-p.i c.in-To.j (sym c.text_end.ensures ∙ c.in-To.is) in let done = done_read (element_at c.args.depth c.args.s.now c.child_of-child.result c.in-To.j) c.in-Done.n (sym c.element.ensures.step ∙ c.in-Done.is) in let more = element_onward c.args.depth c.args.s.now c.child_of-child.result c.in-To.j c.in-Done.n done.forest done.was in omega arith
 
 pub content-loop-p-preserved : goal.content-loop-p-preserved
-content-loop-p-preserved t c = let done = done_read (element_at c.args.depth c.args.s.now c.child_of-child.result c.in-To.j) c.in-Done.n (sym c.element.ensures.step ∙ c.in-Done.is) in let after = read_noted (element_at c.args.depth c.args.s.now c.child_of-child.result c.in-To.j) c.in-Done.n done.forest c.loop-p.notes _ done.was c.element.ensures.notes in ( ap length after ∙ noted_length done.forest c.loop-p.notes ∙ c.loop-p.invariant.0, rw c.count.ensures (child_read (element_at c.args.depth c.args.s.now) c.args.s.now c.args.role c.args.at c.args.notes.now (element_onward c.args.depth c.args.s.now) c.loop-p.i c.loop-p.notes c.loop-p.counts c.loop-p.invariant.1 c.in-To.j c.child_of-child.result (sym c.text_end.ensures ∙ c.in-To.is) (λ h. c.if-byte_at-eq47.false (c.byte_at.ensures ∙ h)) c.child_of-child.ensures c.in-Done.n done.forest _ done.was (element_told c.args.depth c.args.s.now c.child_of-child.result c.in-To.j c.in-Done.n done.forest done.was).shape after), )
+content-loop-p-preserved t c = let done = done_read (element_at c.args.depth c.args.s.now c.child_of-child.result c.in-To.j) c.in-Done.n (sym c.element.ensures.step ∙ c.in-Done.is) in let after = read_noted (element_at c.args.depth c.args.s.now c.child_of-child.result c.in-To.j) c.in-Done.n done.forest c.loop-p.notes _ done.was c.element.ensures.notes in (ap length after ∙ noted_length done.forest c.loop-p.notes ∙ c.loop-p.invariant.0, rw c.count.ensures (child_read (element_at c.args.depth c.args.s.now) c.args.s.now c.args.role c.args.at c.args.notes.now (element_onward c.args.depth c.args.s.now) c.loop-p.i c.loop-p.notes c.loop-p.counts c.loop-p.invariant.1 c.in-To.j c.child_of-child.result (sym c.text_end.ensures ∙ c.in-To.is) (λ h. c.if-byte_at-eq47.false (c.byte_at.ensures ∙ h)) c.child_of-child.ensures c.in-Done.n done.forest _ done.was (element_told c.args.depth c.args.s.now c.child_of-child.result c.in-To.j c.in-Done.n done.forest done.was).shape after))
 
 pub content-returns-in-Form : goal.content-returns-in-Form
 content-returns-in-Form t c = rw (child_broken (element_at c.args.depth c.args.s.now) c.args.s.now c.args.role c.args.at c.args.notes.now (element_onward c.args.depth c.args.s.now) c.loop-p.i c.loop-p.notes c.loop-p.counts c.loop-p.invariant.1 c.in-To.j c.child_of-child.result (sym c.text_end.ensures ∙ c.in-To.is) (λ h. c.if-byte_at-eq47.false (c.byte_at.ensures ∙ h)) c.child_of-child.ensures c.in-Form.p (form_broken (element_at c.args.depth c.args.s.now c.child_of-child.result c.in-To.j) c.in-Form.p (sym c.element.ensures.step ∙ c.in-Form.is))) record { step = refl; notes = tt }

@@ -9,9 +9,9 @@ returns c =
     let args = c.args in
     record {
       recorded = c.add-2.ensures;
-      kept = elim c.if-indexed.branch [ 
-        then-indexed w ↦ entered_by_lem args.register.now args.index.now args.key.now args.indexed args.sought _ _ c.requires w.if-indexed.true w.used.ensures (w.index-is ∙ w.add.ensures)
-      | else-indexed w ↦ entered_plain args.register.now args.index.now args.key.now args.indexed _ w.if-indexed.false w.index-is
+      kept = elim c.if-indexed.branch [
+        | then-indexed w ↦ entered_by_lem args.register.now args.index.now args.key.now args.indexed args.sought _ _ c.requires w.if-indexed.true w.used.ensures (w.index-is ∙ w.add.ensures)
+        | else-indexed w ↦ entered_plain args.register.now args.index.now args.key.now args.indexed _ w.if-indexed.false w.index-is
       ];
     }
 

@@ -18,8 +18,7 @@ pub judge_bulks-slots-requires : goal.judge_bulks-slots-requires
 judge_bulks-slots-requires c =
     let a = c.args in
     let call = call_of a.terms a.sheet.now a.table.now a.register.now a.positions.now a.report.now in
-    let check = c.check-checked in
-    (
+    let check = c.check-checked in (
       bulks_ready a.indexed call a.index.now check.result c.in-Fine.contents c.in-Fine.is check.ensures _ c.put_count.auto.out,
       entries_ready a.indexed call a.index.now check.result c.in-Fine.contents c.in-Fine.is check.ensures,
       record { formed = table_formed a.indexed call a.index.now check.result c.in-Fine.contents c.in-Fine.is check.ensures; is = c.make.ensures },

@@ -20,8 +20,8 @@ loop-i-preserved c =
     let none = taken_not args.index.now _ loop.i c.loop-i-test.true in
     let holds = c.slot_at.ensures in
     elim c.if-slot_at-ne0.branch [
-      then-slot_at-ne0 w ↦ (omega arith, omega arith, omega (arith, loop.invariant.2, w.t-is, one (λ z. w.if-slot_at-ne0.true (holds ∙ z))))
-    | else-slot_at-ne0 w ↦ (omega arith, omega arith, omega (arith, loop.invariant.2, w.t-is, none (sym holds ∙ w.if-slot_at-ne0.false)))
+      | then-slot_at-ne0 w ↦ (omega arith, omega arith, omega (arith, loop.invariant.2, w.t-is, one (λ z. w.if-slot_at-ne0.true (holds ∙ z))))
+      | else-slot_at-ne0 w ↦ (omega arith, omega arith, omega (arith, loop.invariant.2, w.t-is, none (sym holds ∙ w.if-slot_at-ne0.false)))
     ]
 
 pub returns : goal.returns

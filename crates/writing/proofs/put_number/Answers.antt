@@ -13,11 +13,11 @@ loop-i-preserved c =
     let loop = c.loop-i in
     let left = c.loop-i-test.true in
     elim c.if-i-room.branch [
-      then-i-room w ↦ (
+      | then-i-room w ↦ (
         simp (w.d-is, length-set) loop.invariant.0,
         rw w.d-is (number_last loop.d args.at loop.i loop.rest left ∙ loop.invariant.1),
       )
-    | else-i-room w ↦ (
+      | else-i-room w ↦ (
         rw w.d-is loop.invariant.0,
         rw w.d-is (number_last_out loop.d args.at loop.i loop.rest left (omega arith) ∙ loop.invariant.1),
       )
