@@ -14,7 +14,7 @@ use prog.Routine.{Routine}
 use types.Logic.{Logic}
 use contract.Lifetimes.{Lfts}
 use contract.Monad.{Fun}
-use denote.Ref.{Bor}
+use denote.Ref.{Bor, MutBor}
 use mir.Syntax.{w32, w64}
 use mir.Val.{Val, vint, vstruct, of_list}
 use types.Match.{live}
@@ -153,12 +153,15 @@ built_answered register index = by_tests_lem (well_formed register) (length_wron
 abbrev lent : List ℕ → Bor (List ℕ)
 lent bytes = record { ref_ptr = (0, 0); now = bytes }
 
+abbrev lent_mut : List ℕ → MutBor (List ℕ)
+lent_mut bytes = record { ref_ptr = (0, 0); ghost_name = 0; now = bytes }
+
 abbrev lifetimes : Lfts 5
 lifetimes = ([], ([], ([], ([], ([], tt)))))
 
 -- what is lent for a call, and what else is
 abbrev lending : {Rest : Type 0} → Call → Rest → Lent Rest
-lending call rest = (lent call.sheet, (lent call.table, (lent call.register, (lent call.positions, (lent call.report, rest)))))
+lending call rest = (lent call.sheet, (lent call.table, (lent_mut call.register, (lent_mut call.positions, (lent_mut call.report, rest)))))
 
 -- what is left of it: nothing of the terms, the sheet and the table
 abbrev leaving : {Rest : Type 0} → Outcome → Rest → Unit {0} × (Unit {0} × (Unit {0} × (List ℕ × (List ℕ × (List ℕ × Rest)))))
@@ -210,7 +213,7 @@ module _ {M : Type 1} {𝓤 : Ura M} (𝓛 : Logic 𝓤) (mem : Memory → SProp
       ap (λ (o : Outcome). record { outcome = o; slots = out.slots; index = out.index }) found.is in
       record {
         lifetimes = ([], lifetimes);
-        arguments = (call.terms, lending call (lent index, tt));
+        arguments = (call.terms, lending call (lent_mut index, tt));
         ghost = tt;
         result = record { answer = found.answer; slots = out.slots };
         last = leaving out.outcome (out.index, tt);
@@ -236,7 +239,7 @@ module _ {M : Type 1} {𝓤 : Ura M} (𝓛 : Logic 𝓤) (mem : Memory → SProp
       ap (λ (o : Outcome). record { outcome = o; slots = out.slots; index = out.index }) found.is in
       record {
         lifetimes = ([], lifetimes);
-        arguments = (call.terms.date, lending call (lent index, tt));
+        arguments = (call.terms.date, lending call (lent_mut index, tt));
         ghost = tt;
         result = result;
         last = leaving out.outcome (out.index, tt);
@@ -257,7 +260,7 @@ module _ {M : Type 1} {𝓤 : Ura M} (𝓛 : Logic 𝓤) (mem : Memory → SProp
       let found = built_answered register index in
       record {
         lifetimes = ([], ([], tt));
-        arguments = (lent register, (lent index, tt));
+        arguments = (lent register, (lent_mut index, tt));
         ghost = tt;
         result = found.answer;
         last = (tt, ((index_built register index).index, tt));
@@ -271,7 +274,7 @@ module _ {M : Type 1} {𝓤 : Ura M} (𝓛 : Logic 𝓤) (mem : Memory → SProp
       let found = built_answered register index in
       record {
         lifetimes = ([], ([], tt));
-        arguments = (lent register, (lent index, tt));
+        arguments = (lent register, (lent_mut index, tt));
         ghost = tt;
         result = building_number found.answer;
         last = (tt, ((index_built register index).index, tt));

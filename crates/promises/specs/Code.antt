@@ -8,7 +8,7 @@ use prog.Routine.{Routine}
 use types.Logic.{Logic}
 use contract.Monad.{Fun}
 use contract.Running.{Running}
-use Rattle.std.specs.Borrow.{Bor}
+use Rattle.std.specs.Borrow.{Bor, MutBor}
 use Rattle.refusing.specs.Refusals.{Call, refusal}
 use Rattle.judging.specs.Outcome.{Outcome, left}
 use Rattle.rules.specs.declared.Terms.{Terms}
@@ -47,7 +47,7 @@ asked_of_judge = record { Given = Call; Left = Outcome; each = Demanded }
 
 -- the five slices that are lent to a judge, in the order in which it takes them, and what else is
 abbrev pub Lent : Type 0 → Type 0
-Lent Rest = Bor (List ℕ) × (Bor (List ℕ) × (Bor (List ℕ) × (Bor (List ℕ) × (Bor (List ℕ) × Rest))))
+Lent Rest = Bor (List ℕ) × (Bor (List ℕ) × (MutBor (List ℕ) × (MutBor (List ℕ) × (MutBor (List ℕ) × Rest))))
 
 abbrev pub call_from : {Rest : Type 0} → Terms → Lent Rest → Call
 call_from terms a =

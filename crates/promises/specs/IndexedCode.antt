@@ -8,7 +8,7 @@ use prog.Routine.{Routine}
 use types.Logic.{Logic}
 use contract.Monad.{Fun}
 use contract.Running.{Running}
-use Rattle.std.specs.Borrow.{Bor}
+use Rattle.std.specs.Borrow.{MutBor}
 use Rattle.refusing.specs.Refusals.{Call}
 use Rattle.judging.specs.Indexed.{IndexedOutcome, IndexBuilt, indexed_left, built_left}
 use Rattle.rules.specs.Terms.{dated}
@@ -35,7 +35,7 @@ asked_of_builder = record { Given = List ℕ × List ℕ; Left = IndexBuilt; eac
 -- ---- how a call of a function is read
 
 -- the index is lent behind the five slices
-abbrev pub index_from : {Rest : Type 0} → Lent (Bor (List ℕ) × Rest) → List ℕ
+abbrev pub index_from : {Rest : Type 0} → Lent (MutBor (List ℕ) × Rest) → List ℕ
 index_from a = a.1.1.1.1.1.0.now
 
 module _ {M : Type 1} (𝓤 : Ura M) where
