@@ -15,7 +15,7 @@ use Rattle.reading.specs.Text.{roots_at, some_roots}
 use Rattle.reading.specs.Meaning.{bulks_in, sheet_in, countable, all_countable, fits_in}
 use Rattle.reading.specs.Survey.{survey_of}
 use Rattle.reading.specs.Filling.{Fitting, PutSheet}
-use Rattle.reading.specs.Reading.{outcome, outcome_of, answered, when_made}
+use Rattle.reading.specs.Reading.{outcome, outcome_of, when_made}
 use Rattle.reading.specs.declared.survey.Survey.{Survey}
 use Rattle.reading.specs.declared.survey.Survey.TheVariants as survey
 use Rattle.reading.specs.declared.Reading.{Reading}

@@ -1,7 +1,6 @@
 -- `codes::letters` meets its contract: what is left of the scan comes to what the whole scan comes to. Assumes nothing.
 use mathlib.Core.Path.{refl, sym, ◌∙◌}
 use mathlib.Core.Bool.{cond}
-use borrow.Author.Tests.{not-true, not-false}
 use Rattle.wire.proofs.Scans.{every_fails, every_more, every_ends}
 use Rattle.wording.specs.Wording.{upper, upper_or_digit, has}
 use Rattle.codes.proofs.Laws.{letter}

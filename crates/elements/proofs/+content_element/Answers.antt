@@ -1,16 +1,16 @@
 -- `elements::element` and `elements::content`, which call each other, meet their contracts. An element with d levels left calls a content
 -- with d - 1, and a content with d an element with d: twice the levels, and one more for a content, falls with each call.
 -- The loop of a content: what was read, with what is left from place i on, comes to the whole (`Reading`). Assumes nothing.
-use mathlib.Core.Path.{◌≡◌, refl, sym, ap, ◌∙◌}
-use Prim.Native.Nat.{ℕ, ◌+◌, ◌-◌, ◌*◌, ◌<◌}
+use mathlib.Core.Path.{refl, sym, ap, ◌∙◌}
+use Prim.Native.Nat.{◌-◌}
 use native.Mathlib.Omega.{arith}
-use lib.ListN.{length, get_or}
+use lib.ListN.{length}
 use borrow.Author.Rules.{rules}
 use Rattle.prose.proofs.Turns.{text_forward}
-use Rattle.elements.specs.Grammar.{element_at, content_at, broken, deep}
+use Rattle.elements.specs.Grammar.{element_at, content_at}
 use Rattle.elements.proofs.Forests.{noted_length}
 use Rattle.elements.proofs.Forward.{element_told, element_onward}
-use Rattle.elements.proofs.Contents.{done_read, form_broken, deep_deep, read_noted, counted_lacks, Reading, reading_starts, reading_broken, reading_ends, child_broken, child_deep, child_read}
+use Rattle.elements.proofs.Contents.{done_read, form_broken, deep_deep, read_noted, counted_lacks, reading_starts, reading_broken, reading_ends, child_broken, child_deep, child_read}
 use Rattle.elements.proofs.Elements.{over_noted, element_flat, element_flat_noted, element_field, element_group, group_closed, group_closed_noted, group_broken, group_deep, group_empty, group_faulty, bare_noted}
 use Rattle.elements.proofs.+content_element.Goals as goal
 

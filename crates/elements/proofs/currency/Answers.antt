@@ -1,6 +1,5 @@
 -- `elements::currency` meets its contract. Assumes nothing.
 use mathlib.Core.Path.{sym, ◌∙◌}
-use borrow.Author.Tests.{not-true, not-false}
 use Rattle.elements.proofs.currency.Goals as goal
 
 pub returns-then-not-is_amount : goal.returns-then-not-is_amount

@@ -1,7 +1,6 @@
 -- `elements::field` meets its contract: each answer is that of the way that led to it. Assumes nothing.
 use mathlib.Core.Path.{sym, ◌∙◌}
 use borrow.Author.Rules.{rules}
-use borrow.Author.Tests.{not-true, not-false}
 use Prim.Native.Nat.{◌+◌}
 use Rattle.tags.specs.Names.{name_end}
 use Rattle.elements.proofs.Fields.{known_from, field_noted, filled_noted, field_open, field_foreign, field_empty, field_unfit, field_empty_foreign, field_faulty}

@@ -1,6 +1,5 @@
 -- `judging::build_index` meets its contract. Assumes nothing.
 use Rattle.judging.proofs.Indices.{unformed_told, other_length_told, built_told, build_ready}
-use borrow.Author.Tests.{not-true, not-false}
 use Rattle.judging.proofs.build_index.Goals as goal
 
 pub returns-then-not-well_formed : goal.returns-then-not-well_formed

@@ -1,9 +1,6 @@
 -- `opendays::next_open_day` meets its contract: what is left of the search finds what the whole search finds. Assumes nothing.
 use mathlib.Core.Path.{refl, sym, ap, ◌∙◌}
-use mathlib.Core.Bool.{true}
 use native.Mathlib.Omega.{arith}
-use borrow.Author.Tests.{not-true, not-false}
-use Rattle.calendar.specs.Date.{is_date}
 use Rattle.calendar.proofs.Days.{after_later, after_date}
 use Rattle.opendays.specs.OpenDay.{open_day}
 use Rattle.opendays.proofs.Next.{next_open, next_closed, next_ends}

@@ -1,6 +1,5 @@
 -- `positions::room_for_all` meets its contract: what is left of the scan comes to what the whole scan comes to. Assumes nothing.
 use Rattle.std.proofs.Common.{sym, ◌∙◌, rules}
-use borrow.Author.Tests.{not-true, not-false}
 use Rattle.wire.proofs.Scans.{every_fails, every_more, every_ends}
 use Rattle.positions.specs.Positions.{has_room}
 use Rattle.positions.proofs.Laws.{room_start}

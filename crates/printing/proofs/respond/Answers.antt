@@ -1,5 +1,4 @@
 -- `printing::respond` meets its contract: the refusal of another shape, or the judgement's text. Assumes nothing.
-use borrow.Author.Tests.{not-true, not-false}
 use Rattle.printing.proofs.Runs.{within_reading, whole_answer}
 use Rattle.printing.proofs.Shapes.{parts_fit, refusal_fits, response_else, response_is}
 use Rattle.printing.proofs.respond.Goals as goal

@@ -1,7 +1,6 @@
 -- `prolog::first_place` meets its contract: each answer is that of the way that led to it. Assumes nothing.
 use mathlib.Core.Path.{sym, ap, ◌∙◌}
 use native.Mathlib.Omega.{arith}
-use borrow.Author.Tests.{not-true, not-false}
 use Rattle.wire.specs.Field.{text}
 use Rattle.letters.specs.declared.Reach.TheVariants.{To, Broken}
 use Rattle.letters.proofs.References.{stands_there}

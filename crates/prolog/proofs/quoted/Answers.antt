@@ -2,7 +2,6 @@
 use mathlib.Core.Path.{◌≡◌, sym, ◌∙◌}
 use Prim.Native.Nat.{◌<◌}
 use native.Mathlib.Omega.{arith}
-use borrow.Author.Tests.{not-true, not-false}
 use Rattle.letters.proofs.Scans.{byte_there}
 use Rattle.tags.proofs.AttributeWalk.{quote_some}
 use Rattle.prolog.proofs.Settings.{quoted_none, quoted_empty, quoted_ends, quoted_open}

@@ -1,6 +1,5 @@
 -- `prolog::setting` meets its contract: each answer is that of the way that led to it. Assumes nothing.
 use mathlib.Core.Path.{sym, ◌∙◌}
-use borrow.Author.Tests.{not-true, not-false}
 use Rattle.letters.specs.declared.Reach.TheVariants.{To, Broken}
 use Rattle.prolog.proofs.Settings.{setting_none, setting_named}
 use Rattle.prolog.proofs.setting.Goals as goal

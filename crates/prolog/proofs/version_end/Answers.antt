@@ -3,7 +3,7 @@ use mathlib.Core.Path.{sym, ◌∙◌}
 use native.Mathlib.Omega.{arith}
 use Rattle.wire.specs.Field.{text}
 use Rattle.letters.proofs.References.{stands_there}
-use borrow.Author.Tests.{lt-ltb, le-ltb, not-true, not-false}
+use borrow.Author.Tests.{lt-ltb, le-ltb}
 use Rattle.prolog.proofs.version_end.Goals as goal
 
 pub returns-then-not-stands_at : goal.returns-then-not-stands_at

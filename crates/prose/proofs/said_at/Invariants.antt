@@ -1,5 +1,4 @@
 -- `prose::said_at` meets its contract: what was said so far is kept, and what is left to say comes to the whole. Assumes nothing.
-use mathlib.Core.List.{[]}
 use Prim.Native.Nat.{◌-◌}
 use lib.ListN.{length}
 use Rattle.prose.proofs.Sayings.{Saying}

@@ -1,7 +1,6 @@
 -- `prose::straight_end` meets its contract: what is left of the run ends where the whole does. Assumes nothing.
 use mathlib.Core.Path.{refl, sym, ◌∙◌}
 use borrow.Author.Rules.{rules}
-use borrow.Author.Tests.{not-true, not-false}
 use Rattle.letters.proofs.Scans.{run_on, run_stops, run_ends}
 use Rattle.prose.specs.Plain.{straight}
 use Rattle.prose.proofs.straight_end.Goals as goal

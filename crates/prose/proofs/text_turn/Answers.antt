@@ -1,7 +1,7 @@
 -- `prose::text_turn` meets its contract: each turn is that of the way that led to it. Assumes nothing.
 use mathlib.Core.Path.{sym, ◌∙◌}
 use native.Mathlib.Omega.{arith}
-use borrow.Author.Tests.{eq-eqb, ne_eqb, not-true, not-false}
+use borrow.Author.Tests.{eq-eqb, ne_eqb}
 use Rattle.letters.proofs.References.{stands_there}
 use Rattle.prose.specs.Prose.{section_start, text_turn}
 use Rattle.prose.proofs.text_turn.Goals as goal

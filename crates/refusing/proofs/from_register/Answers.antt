@@ -5,7 +5,6 @@ use mathlib.Core.Bool.{true, false}
 use Rattle.refusing.specs.Refusals.{holds_given}
 use Rattle.refusing.specs.declared.Refusal.TheVariants.{Register, IndexLength}
 use Rattle.refusing.proofs.Checking.{stops, goes_on, not_good}
-use borrow.Author.Tests.{not-false}
 use Rattle.refusing.proofs.from_register.Goals as goal
 
 pub returns-then-not-well_formed : goal.returns-then-not-well_formed

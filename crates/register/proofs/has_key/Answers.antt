@@ -1,5 +1,4 @@
 -- `register::has_key` meets its contract: an entry that differs in a word differs, and any other is compared whole. Assumes nothing.
-use borrow.Author.Tests.{not-true}
 use Rattle.register.proofs.Search.{word_differs, key_between}
 use Rattle.register.proofs.has_key.Goals as goal
 

@@ -1,7 +1,6 @@
 -- `routing::kinds_known` meets its contract: what is left of the scan comes to what the whole scan comes to. Assumes nothing.
 use mathlib.Core.Path.{◌≡◌, sym, ap, ◌∙◌}
 use mathlib.Core.Bool.{true, false}
-use borrow.Author.Tests.{not-true, not-false}
 use Rattle.wire.proofs.Scans.{every_fails, every_more, every_ends}
 use Rattle.routing.specs.Table.{known_kind, kind_at}
 use Rattle.routing.proofs.Laws.{kinds_start}

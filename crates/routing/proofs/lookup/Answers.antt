@@ -1,7 +1,6 @@
 -- `routing::lookup` meets its contract: each answer is that of the way that led to it. Assumes nothing.
 use mathlib.Core.Path.{sym, ap, ◌∙◌}
 use native.Mathlib.Nat.{lt_of_lt_of_le}
-use borrow.Author.Tests.{not-true, not-false}
 use Rattle.routing.specs.Lookup.{option_of, reachable, row_is}
 use Rattle.routing.specs.declared.Found.{Found}
 use Rattle.routing.proofs.Laws.{lookup_date, lookup_table, lookup_bic, lookup_row, found_below}

@@ -1,11 +1,9 @@
 -- `sheet::measure` meets its contract: a walk over the bulks, that stops once it is past the end. Assumes nothing.
 use mathlib.Core.Path.{◌≡◌, sym, ◌∙◌}
-use mathlib.Core.List.{List}
-use Prim.Native.Nat.{ℕ, ◌+◌, ◌*◌, ◌-◌, ◌≤◌}
 use native.Mathlib.Nat.{sub-zero, zero-add}
 use native.Mathlib.Omega.{arith}
 use lib.ListN.{get_or}
-use Rattle.sheet.specs.Sheet.{count_width, header_width, count_at, bulk_count, first_section, after_messages, end_from, messages_from, message_count}
+use Rattle.sheet.specs.Sheet.{count_at, after_messages, message_count}
 use Rattle.sheet.proofs.Laws.{kind_read, messages_many, end_step, messages_step, messages_end, walk_past, walk_left_over, walk_ended}
 use Rattle.sheet.proofs.measure.Goals as goal
 

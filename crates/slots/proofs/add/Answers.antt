@@ -1,6 +1,5 @@
 -- `slots::add` meets its contract: a slot written, or none. Assumes nothing.
 use mathlib.Core.Path.{sym, ◌∙◌}
-use borrow.Author.Tests.{not-true, not-false}
 use Rattle.slots.specs.Asked.{end_of}
 use Rattle.slots.proofs.Turns.{added_new, added_not}
 use Rattle.slots.proofs.add.Goals as goal

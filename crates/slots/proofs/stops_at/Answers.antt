@@ -2,7 +2,6 @@
 use mathlib.Core.Path.{sym, ◌∙◌}
 use Prim.Native.Nat.{◌-◌}
 use native.Mathlib.Omega.{arith}
-use borrow.Author.Tests.{not-true, not-false}
 use Rattle.slots.specs.Stored.{key_in}
 use Rattle.slots.proofs.Walks.{names_least, names_told, stops_empty, stops_named}
 use Rattle.slots.proofs.stops_at.Goals as goal

@@ -1,7 +1,6 @@
 -- `slots::taken` meets its contract: what was counted and what is left come to the whole. Assumes nothing.
 use mathlib.Core.Path.{sym, ◌∙◌}
 use native.Mathlib.Omega.{arith}
-use Rattle.slots.specs.Asked.{taken}
 use Rattle.slots.proofs.Turns.{taken_starts, taken_not, taken_one, taken_ends}
 use Rattle.slots.proofs.taken.Goals as goal
 use Rattle.slots.proofs.taken.Goals.{then-slot_at-ne0, else-slot_at-ne0}

@@ -1,7 +1,6 @@
 -- `tags::attributed` meets its contract: each answer is that of the way that led to it. Assumes nothing.
 use mathlib.Core.Path.{sym, ap, ◌∙◌}
 use borrow.Author.Rules.{rules}
-use borrow.Author.Tests.{not-true, not-false}
 use Rattle.letters.specs.declared.Reach.TheVariants.{To, Broken}
 use Rattle.tags.specs.Names.{name_start}
 use Rattle.tags.proofs.Tags.{start_past, start_nameless, start_named}

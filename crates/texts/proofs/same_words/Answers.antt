@@ -5,7 +5,6 @@ use mathlib.Core.Path.{refl, sym, ◌∙◌}
 use Prim.Native.Nat.{◌-◌}
 use native.Mathlib.Omega.{arith}
 use lib.ListN.{length}
-use borrow.Author.Tests.{not-true, not-false}
 use Rattle.wire.proofs.Texts.{part_differs}
 use Rattle.texts.proofs.Words.{pieces_start, piece_more, piece_first}
 use Rattle.texts.proofs.same_words.Goals as goal

@@ -1,6 +1,5 @@
 -- `wording::spelled` meets its contract: what is left of the two scans comes to what they come to in all. Assumes nothing.
 use mathlib.Core.Path.{sym, ◌∙◌}
-use borrow.Author.Tests.{not-true, not-false}
 use Rattle.wording.proofs.Laws.{run_first, run_ends, run_other, run_second, run_more}
 use Rattle.wording.proofs.spelled.Goals as goal
 

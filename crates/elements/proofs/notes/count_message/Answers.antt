@@ -1,5 +1,4 @@
 -- `elements::notes::count_message` meets its contract. Assumes nothing.
-use borrow.Author.Tests.{not-true, not-false}
 use Rattle.elements.proofs.notes.count_message.Goals as goal
 
 pub returns-then-not-message : goal.returns-then-not-message

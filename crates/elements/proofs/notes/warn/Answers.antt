@@ -1,5 +1,4 @@
 -- `elements::notes::warn` meets its contract. Assumes nothing.
-use borrow.Author.Tests.{not-true, not-false}
 use Rattle.elements.proofs.notes.warn.Goals as goal
 
 pub returns-then-not-lack : goal.returns-then-not-lack

@@ -1,15 +1,13 @@
 -- `elements::over::skip` and `elements::over::skip_content`, which call each other, meet their contracts, by the measures of
 -- `elements::element` and `elements::content`. The loop of a content: what is left from place i on leads to where the whole leads. Assumes
 -- nothing.
-use mathlib.Core.Path.{◌≡◌, refl, sym, ◌∙◌}
-use Prim.Native.Nat.{ℕ, ◌+◌, ◌-◌, ◌*◌, ◌<◌}
+use mathlib.Core.Path.{refl, sym, ◌∙◌}
+use Prim.Native.Nat.{◌-◌}
 use native.Mathlib.Omega.{arith}
-use lib.ListN.{length}
 use borrow.Author.Rules.{rules}
 use Rattle.prose.proofs.Turns.{text_forward}
 use Rattle.paths.specs.Roles as roles
 use Rattle.elements.specs.Grammar.{element_at, content_at}
-use Rattle.elements.specs.Notes.{step_of}
 use Rattle.elements.proofs.Forward.{element_onward}
 use Rattle.elements.proofs.Contents.{done_read, form_broken, deep_deep}
 use Rattle.elements.proofs.Elements.{element_flat, element_group, group_closed, group_broken, group_deep, group_empty, group_faulty}

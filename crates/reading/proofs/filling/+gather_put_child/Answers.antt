@@ -1,14 +1,12 @@
 -- `reading::filling::put_child` and `reading::filling::gather`, which call each other, meet their contracts: the measure falls as it does for an element and
 -- its content. The loop: the messages so far, with those of what is left from place i on, are those of the whole. Assumes nothing.
-use mathlib.Core.Path.{◌≡◌, refl, sym, ◌∙◌}
-use Prim.Native.Nat.{ℕ, ◌+◌, ◌-◌, ◌*◌, ◌<◌}
+use mathlib.Core.Path.{refl, sym, ◌∙◌}
 use native.Mathlib.Omega.{arith}
-use lib.ListN.{length}
 use borrow.Author.Rules.{rules}
 use Rattle.prose.proofs.Turns.{text_forward}
 use Rattle.elements.specs.Grammar.{element_at}
 use Rattle.elements.proofs.Forward.{element_onward}
-use Rattle.reading.proofs.Gathers.{Gathering, gathering_starts, gathering_broken, gathering_ends, child_ready, gathering_on}
+use Rattle.reading.proofs.Gathers.{gathering_starts, gathering_broken, gathering_ends, child_ready, gathering_on}
 use Rattle.reading.proofs.Children.{levels_left, message_room, message_put, quiet_put, has_note, inside_ready, group_put, bare_put, faulty_put}
 use Rattle.reading.proofs.filling.+gather_put_child.Goals as goal
 

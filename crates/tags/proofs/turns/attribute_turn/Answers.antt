@@ -1,7 +1,6 @@
 -- `tags::turns::attribute_turn` meets its contract: each answer is that of the way that led to it. Assumes nothing.
 use mathlib.Core.Path.{◌≡◌, sym, ap, ◌∙◌}
 use mathlib.Core.Bool.{true}
-use borrow.Author.Tests.{not-true, not-false}
 use Rattle.letters.specs.Places.{byte_at}
 use Rattle.letters.specs.declared.Reach.TheVariants.{To, Broken}
 use Rattle.tags.specs.Names.{is_space, name_start}

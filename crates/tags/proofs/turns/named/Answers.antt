@@ -1,8 +1,5 @@
 -- `tags::turns::named` meets its contract: what is left of the search from place i on comes to what the whole comes to. Assumes nothing.
 use mathlib.Core.Path.{refl, sym, ap₂, ◌∙◌}
-use mathlib.Core.Bool.{Bool}
-use mathlib.Core.List.{List}
-use Prim.Native.Nat.{ℕ}
 use native.Mathlib.Omega.{arith}
 use Rattle.wire.specs.Field.{same}
 use Rattle.letters.specs.declared.Reach.TheVariants.{To}
