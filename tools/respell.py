@@ -19,7 +19,7 @@ WORD = re.compile(r"[^\s(){}.;,@\"«»\[\]]+")
 QUIET = re.compile(r'"(?:[^"\\\n]|\\.)*"|(?<![^\s(){}.;,@"«»])--[^\n]*')
 SPAN = re.compile(r"`[^`\n]+`")
 DECLARED = re.compile(r"(?m)^ *(?:pub |abbrev |unfoldable )*([^\s:(){}]+)(?: \{[^{}\n]*\}| \([^()\n]*\))* :(?= |$)(?! *tie\.)")
-BOUND = re.compile(r"\blet ([^\s:(){}]+) (?::|=)|[({]((?:[^\s:(){}]+ )+):(?= )|λ ((?:[^\s:(){}.]+ ?)+)\.")
+BOUND = re.compile(r"\blet ([^\s:(){}]+) (?::|=)|[({]((?:[^\s:(){}]+ )+):(?= )|λ ((?:[^\s:(){}.]+ ?)+)\.|\bas ([a-z][^\s,}]*)(?=[,}])")
 IMPORTED = re.compile(r"(?m)^use (\S+?)\.\{([^}]*)\}")
 CLAUSE = re.compile(r"(?:requires|ensures)\s*\*?\s*(?:\w+\s*)?(?=\{)|ghost\s*(?:\w+\s*(?::\s*(?:(?:owns|lends)\s*)?|=\s*))?(?=\{)")
 GHOST_USE = re.compile(r"ghost use\b[^;]*;")
@@ -32,7 +32,8 @@ def turned(name):
     if name[0].isupper():
         head, *rest = name.split("-")
         return head + "".join(r[:1].upper() + r[1:] for r in rest)
-    return re.sub(r"(?<=[a-z0-9₀-₉'])[A-Z]", lambda m: "_" + m[0].lower(), name).replace("-", "_").replace("·", "_")
+    hump = r"(?<=[a-z0-9₀-₉'])[A-Z]|(?<=[A-Z])[A-Z](?=[a-z])"
+    return re.sub(hump, lambda m: "_" + m[0].lower(), name).replace("-", "_").replace("·", "_")
 
 
 def antt_files():
@@ -103,10 +104,15 @@ def turn_spans(text, table):
     return SPAN.sub(lambda m: turn_words(m[0][1:-1], table).join("``"), text)
 
 
+def turn_comment(text, table):
+    """A comment's code spans, and its bare words that no prose has: those with a hump."""
+    return turn_words(turn_spans(text, table), {k: v for k, v in table.items() if re.search("[a-z][A-Z]", k)})
+
+
 def turn_antt(text, table):
     out, at = [], 0
     for m in QUIET.finditer(text):
-        quiet = turn_spans(m[0], table) if m[0].startswith("--") else m[0]
+        quiet = turn_comment(m[0], table) if m[0].startswith("--") else m[0]
         out += [turn_words(text[at:m.start()], table), quiet]
         at = m.end()
     return "".join(out) + turn_words(text[at:], table)
@@ -124,7 +130,7 @@ def turn_rt(text, table):
         pieces.append((m.end(), i))
     for start, end in sorted(pieces, reverse=True):
         text = text[:start] + turn_words(text[start:end], table) + text[end:]
-    return re.sub(r"(?m)//.*$", lambda m: turn_spans(m[0], table), text)
+    return re.sub(r"(?m)//.*$", lambda m: turn_comment(m[0], table), text)
 
 
 def main():

@@ -50,7 +50,7 @@ before a b =
 abbrev pub days_in_year : ℕ → ℕ
 days_in_year y = cond (leap y) 366 365
 
--- the days of the first n years, from firstYear on
+-- the days of the first n years, from first_year on
 unfoldable pub days_of_years : ℕ → ℕ
 days_of_years zero = 0
 days_of_years (suc n) = days_of_years n + days_in_year (first_year + n)
@@ -60,6 +60,6 @@ unfoldable pub days_of_months : ℕ → ℕ → ℕ
 days_of_months y zero = 0
 days_of_months y (suc m) = days_of_months y m + days_in y m
 
--- how many days a date lies after 1 January of firstYear
+-- how many days a date lies after 1 January of first_year
 unfoldable pub day_number : ℕ → ℕ
 day_number d = days_of_years (year d - first_year) + days_of_months (year d) (month d) + (day d - 1)

@@ -22,7 +22,7 @@ use Rattle.slots.proofs.Laws.{built_length, built_finds, built_reads, stored_is,
 use Rattle.register.specs.Register.{key_width, entry_width, used, room, in_use, entry_place, entry_at, key_at, key_in, search, is_there, stands, add}
 use Rattle.register.specs.Room.{Formed}
 use Rattle.register.proofs.Laws.{key_of_entry, add_room, add_used, add_old, add_new}
-use Rattle.index.specs.Index.{entry_layout, slots_aPlace, index_length, searched_by, index_of, end_in}
+use Rattle.index.specs.Index.{entry_layout, slots_a_place, index_length, searched_by, index_of, end_in}
 use Rattle.index.specs.Searches.{Search, slots_read_by, most_read}
 use Rattle.index.proofs.Ways.{AllFormed}
 
@@ -78,7 +78,7 @@ module _ (r : List ℕ) (f : Formed r) (key : List ℕ) where
   stands_found e =
       let at = there_from (first_from (λ k. same (key_at r k) key) (in_use r) 0) e in
       let is = first_found (λ k. same (key_at r k) key) (in_use r) 0 at.0 at.1 in
-      built_finds entry_layout r (index_length r) (slots_aPlace * room r) refl (omega (arith, f.few)) (in_use r) (omega arith) key at.0 (omega (arith, is.1)) is.2
+      built_finds entry_layout r (index_length r) (slots_a_place * room r) refl (omega (arith, f.few)) (in_use r) (omega arith) key at.0 (omega (arith, is.1)) is.2
 
   -- and by its own index no key of the register is missed
   pub finds : names (in_use r) (end_in r key).name ≡ stands r key
@@ -88,9 +88,9 @@ module _ (r : List ℕ) (f : Formed r) (key : List ℕ) where
   pub reads : (end_in r key).read ≤ used r + 1
   unfolding index_of
   reads =
-      let small : slots_aPlace * room r ≤ most_slots = omega (arith, f.few) in
-      let few : in_use r ≤ slots_aPlace * room r = omega arith in
-      omega (arith, built_reads entry_layout r (index_length r) (slots_aPlace * room r) refl small (in_use r) few key)
+      let small : slots_a_place * room r ≤ most_slots = omega (arith, f.few) in
+      let few : in_use r ≤ slots_a_place * room r = omega arith in
+      omega (arith, built_reads entry_layout r (index_length r) (slots_a_place * room r) refl small (in_use r) few key)
 
 -- nor in all, where so many searches are made
 pub reads_most : (ss : List Search) → AllFormed ss → slots_read_by true ss ≤ most_read ss

@@ -13,7 +13,7 @@ use Rattle.slots.specs.declared.Layout.{Layout}
 use Rattle.slots.specs.declared.Ended.{Ended}
 use Rattle.register.specs.Register.{used, room, in_use, stands, add}
 use Rattle.register.proofs.Laws.{add_room, spare_less}
-use Rattle.index.specs.Index.{entry_layout, slots_aPlace, searched_by, index_of, end_in}
+use Rattle.index.specs.Index.{entry_layout, slots_a_place, searched_by, index_of, end_in}
 use Rattle.index.specs.Ready.{index_by, nowhere, Ready, SoughtTold, EnterReady, Entered, EnteredAnew, Measured}
 use Rattle.index.specs.declared.Sought.{Sought}
 use Rattle.index.proofs.Ways.{read_of}
@@ -65,7 +65,7 @@ module _ (r index key : List ℕ) where
   entered_long true index' e ei =
       ap length ei
       ∙ index_length_lem (add r key)
-      ∙ ap (λ (n : ℕ). slot_width * (slots_aPlace * n)) (add_room r key)
+      ∙ ap (λ (n : ℕ). slot_width * (slots_a_place * n)) (add_room r key)
       ∙ sym (ap length e ∙ index_length_lem r)
   entered_long false index' e ei = ap length ei
 

@@ -10,12 +10,12 @@ use Rattle.register.specs.Register.{key_width, entry_width, used_width, room, in
 abbrev pub entry_layout : Layout
 entry_layout = record { first = used_width; stride = entry_width; width = key_width }
 
-abbrev pub slots_aPlace : ℕ
-slots_aPlace = 2
+abbrev pub slots_a_place : ℕ
+slots_a_place = 2
 
 -- refusal 12 is given exactly where the index has another length
 abbrev pub index_length : List ℕ → ℕ
-index_length register = slot_width * (slots_aPlace * room register)
+index_length register = slot_width * (slots_a_place * room register)
 
 -- the search of a key among the entries in use
 abbrev pub searched_by : List ℕ → List ℕ → List ℕ → End

@@ -76,11 +76,11 @@ module _ (terms : Terms) (table : List ℕ) where
   -- ---- the messages of a bulk
 
   unfoldable pub judge_messages : List ℕ → Bool → List (List ℕ) → State → Judged
-  judge_messages header fallen [] before = record { lines = []; totals = nothing; after = before }
-  judge_messages header fallen (m ∷ ms) before =
-      let rest = judge_messages header fallen ms (after_message header fallen m before) in
+  judge_messages header fell [] before = record { lines = []; totals = nothing; after = before }
+  judge_messages header fell (m ∷ ms) before =
+      let rest = judge_messages header fell ms (after_message header fell m before) in
       record {
-        lines = line_of header fallen m before ++ rest.lines;
-        totals = counted header fallen m before rest.totals;
+        lines = line_of header fell m before ++ rest.lines;
+        totals = counted header fell m before rest.totals;
         after = rest.after;
       }

@@ -13,6 +13,6 @@ message_search header message before =
 
 module _ (terms : Terms) (table : List ℕ) where
   unfoldable pub message_searches : List ℕ → Bool → List (List ℕ) → State → List Search
-  message_searches header fallen [] before = []
-  message_searches header fallen (m ∷ ms) before =
-      message_search header m before ∷ message_searches header fallen ms (after_message terms table header fallen m before)
+  message_searches header fell [] before = []
+  message_searches header fell (m ∷ ms) before =
+      message_search header m before ∷ message_searches header fell ms (after_message terms table header fell m before)

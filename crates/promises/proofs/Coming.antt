@@ -36,8 +36,8 @@ use Rattle.judging.specs.declared.Answer.TheVariants.{Refused, Judged}
 use Rattle.judging.specs.declared.Building.{Building}
 use Rattle.judging.specs.declared.Building.TheVariants.{Unbuilt, Built}
 use Rattle.judging.proofs.Answers.{outcome_judged, outcome_refused}
-use Rattle.judging.specs.contracts.Answer.{the_row as answer-row}
-use Rattle.judging.specs.contracts.Building.{the_row as building-row}
+use Rattle.judging.specs.contracts.Answer.{the_row as answer_row}
+use Rattle.judging.specs.contracts.Building.{the_row as building_row}
 use Rattle.judging.proofs.Entries.{slots_few}
 use Rattle.judging.proofs.Widths.{bulk_number, message_number}
 use Rattle.tynderaxo.specs.Doors.{indexed_door_outcome}
@@ -51,7 +51,7 @@ use Rattle.promises.proofs.Told.{tell}
 
 -- ---- answers that are values of their type
 
-judged_held : (n : ℕ) → n < 2 ^ 64 → Held answer-row (Judged n)
+judged_held : (n : ℕ) → n < 2 ^ 64 → Held answer_row (Judged n)
 judged_held n small = (live 1 (of_list (vint w64 n ∷ [])) ∷ [], (vint w64 n ∷ [], (refl, ((vint w64 n ∷ [], tt), (refl, ((refl, small), tt))))))
 
 abbrev bare : ℕ → List Val
@@ -64,7 +64,7 @@ HeldAs k = (x : List Val) × ((y : List Val) × ((x ≡ live 0 (of_list y) ∷ [
 held_as : {k : ℕ} → HeldAs k
 held_as {k} = (live 0 (of_list (bare k)) ∷ [], (bare k, (refl, ((bare k, tt), (refl, (([], (refl, (tt, (refl, tt)))), tt))))))
 
-refused_held : (r : Refusal) → Held answer-row (Refused r) × (refusal_number r < 2 ^ 32)
+refused_held : (r : Refusal) → Held answer_row (Refused r) × (refusal_number r < 2 ^ 32)
 refused_held Date = (held_as, lit< tt)
 refused_held Table = (held_as, lit< tt)
 refused_held Positions = (held_as, lit< tt)
@@ -83,7 +83,7 @@ refused_held Space = (held_as, lit< tt)
 
 record Answered (out : Outcome) : Type 0 where
   answer : Answer
-  held : Held answer-row answer
+  held : Held answer_row answer
   number_small : answer_number answer < 2 ^ 32
   length_small : answer_length answer < 2 ^ 64
   is : left answer out.register out.positions out.report ≡ out
@@ -134,7 +134,7 @@ indexed_answered call index = by_answer (ℕ_discrete (indexed_refusal call inde
 -- of a building
 record BuildingAnswered (out : IndexBuilt) : Type 0 where
   answer : Building
-  held : Held building-row answer
+  held : Held building_row answer
   number_small : building_number answer < 2 ^ 32
   is : built_left answer out.index ≡ out
 

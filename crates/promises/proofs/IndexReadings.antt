@@ -7,7 +7,7 @@ use native.Mathlib.Nat.{ℕ_set}
 use borrow.Author.Tests.{eqb-false}
 use Rattle.tally.specs.Tally.{Totals, totals_of}
 use Rattle.messages.specs.declared.Counts.{Counts}
-use Rattle.messages.specs.contracts.Counts.{the_row as counts-row}
+use Rattle.messages.specs.contracts.Counts.{the_row as counts_row}
 use Rattle.slots.specs.Slots.{End}
 use Rattle.slots.specs.Asked.{end_of}
 use Rattle.slots.specs.declared.Ended.{Ended}
@@ -32,7 +32,7 @@ ended_one p q = λ i. record { place = ((p ∙ sym q) i).place; name = ((p ∙ s
 pub sought_one : {indexed : Bool} {register key : List ℕ} {x y : Sought} → SoughtTold indexed register key x → SoughtTold indexed register key y → x ≡ y
 sought_one p q = λ i. record { there = (p.there ∙ sym q.there) i; ended = ended_one p.ended q.ended i }
 
-pub counts_one : {totals : Totals} {slots : ℕ} {x y : Counts} → Held counts-row x → Held counts-row y
+pub counts_one : {totals : Totals} {slots : ℕ} {x y : Counts} → Held counts_row x → Held counts_row y
     → totals_of x.tally ≡ totals → totals_of y.tally ≡ totals → x.slots ≡ slots → y.slots ≡ slots → x ≡ y
 counts_one p q t t' s s' = λ i. record {
   tally = tally_one (p.1.0.0, p.1.1.1.0) (q.1.0.0, q.1.1.1.0) t t' i;

@@ -69,11 +69,11 @@ indexed_shut_out =
       refuses_every_date = λ s. zero_is_one (sym (ap (λ o. o.number) (s (call_on one) own (λ e. omega arith) (λ e. omega arith))));
       writes_the_index_on_refusal = λ s. zero_is_one (sym (ap (λ (x : List ℕ). get_or x 0 0) ((s (call_on []) own).untouched (λ e. omega arith)).kept));
       indexes_no_bulk = λ s. zero_is_one (ap (λ (x : List ℕ). named x - 1) ((s (call_on one) own).tells (in_bytes one refl) refl).index);
-      indexes_no_bulk_in_aRun = λ s. zero_is_one (ap (λ (x : List ℕ). named x - 1) ((s today table start own (file one ∷ []) no_cents).kept refl));
+      indexes_no_bulk_in_a_run = λ s. zero_is_one (ap (λ (x : List ℕ). named x - 1) ((s today table start own (file one ∷ []) no_cents).kept refl));
       leaves_the_index = λ s. zero_is_one (ap (λ (x : List ℕ). named x / 2) ((s (call_on one) own).tells (in_bytes one refl) refl).index);
-      leaves_the_index_in_aCut = λ s.
+      leaves_the_index_in_a_cut = λ s.
           zero_is_one (sym (ap (λ (n : ℕ). n / 13) (s (call_on both) own (in_bytes both refl) refl 1 (lit≤ tt) space space (lit≤ tt) (lit≤ tt)).parts.second_judged));
-      leaves_the_index_in_aRun = λ s. zero_is_one (ap (λ (x : List ℕ). named x / 2) ((s today table start own (file one ∷ []) no_cents).kept refl));
+      leaves_the_index_in_a_run = λ s. zero_is_one (ap (λ (x : List ℕ). named x / 2) ((s today table start own (file one ∷ []) no_cents).kept refl));
       counts_one_less = λ s. zero_is_one (ap (λ (n : ℕ). n - 2) ((s (call_on one) own).tells (in_bytes one refl) refl).slots);
       counts_nothing = λ s. zero_is_one (ap (λ (n : ℕ). n / 3) ((s (call_on one) own).tells (in_bytes one refl) refl).slots);
       counts_the_most = λ s. zero_is_one (sym (ap (λ (n : ℕ). n - 3) ((s (call_on one) own).tells (in_bytes one refl) refl).slots));

@@ -27,9 +27,9 @@ use Rattle.sheet.specs.declared.Shape.{Shape}
 use Rattle.sheet.specs.declared.Shape.TheVariants.{Broken, Whole}
 use Rattle.tally.specs.Tally.{Totals, cents_of, totals_of}
 use Rattle.tally.specs.Room.{SideTold}
-use Rattle.tally.specs.contracts.Cents.{the_row as cents-row}
-use Rattle.tally.specs.contracts.Side.{the_row as side-row}
-use Rattle.tally.specs.contracts.Tally.{the_row as tally-row}
+use Rattle.tally.specs.contracts.Cents.{the_row as cents_row}
+use Rattle.tally.specs.contracts.Side.{the_row as side_row}
+use Rattle.tally.specs.contracts.Tally.{the_row as tally_row}
 use Rattle.tally.specs.declared.Cents.{Cents}
 use Rattle.tally.specs.declared.Side.{Side}
 use Rattle.tally.specs.declared.Tally.{Tally}
@@ -167,10 +167,10 @@ small_one {x} {y} p q e = λ i. record {
   1 = low_one x.0 y.0 x.1 y.1 p q e i;
 }
 
-pub cents_one : {n : ℕ} {x y : Cents} → Held cents-row x → Held cents-row y → cents_of x ≡ n → cents_of y ≡ n → x ≡ y
+pub cents_one : {n : ℕ} {x y : Cents} → Held cents_row x → Held cents_row y → cents_of x ≡ n → cents_of y ≡ n → x ≡ y
 cents_one p q t t' = small_one p.1.1.1.1.0.1 q.1.1.1.1.0.1 (t ∙ sym t')
 
-pub side_one : {x y : Side} {number cents : ℕ} → Held side-row x → Held side-row y → SideTold x number cents → SideTold y number cents
+pub side_one : {x y : Side} {number cents : ℕ} → Held side_row x → Held side_row y → SideTold x number cents → SideTold y number cents
     → x ≡ y
 side_one {x} {y} p q t t' = λ i. record {
   number = record { 0 = (t.number_is ∙ sym t'.number_is) i };
@@ -178,7 +178,7 @@ side_one {x} {y} p q t t' = λ i. record {
       (t.cents_is ∙ sym t'.cents_is) i;
 }
 
-pub tally_one : {e : Totals} {x y : Tally} → Held tally-row x → Held tally-row y → totals_of x ≡ e → totals_of y ≡ e → x ≡ y
+pub tally_one : {e : Totals} {x y : Tally} → Held tally_row x → Held tally_row y → totals_of x ≡ e → totals_of y ≡ e → x ≡ y
 tally_one {x = x} {y = y} p q t t' = λ i. record {
   accepted = record {
     number = record { 0 = ((t ∙ sym t') i).accepted_number };

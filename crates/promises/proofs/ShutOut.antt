@@ -29,7 +29,7 @@ use Rattle.promises.specs.Reading.{InBytes, accepted_of, accepted_from, accepted
 use Rattle.promises.specs.Demands.{BulksTell, MessagesTell, cents_paid}
 use Rattle.promises.specs.Runs.{File, run, NoneLike, NoneTwice, with_message_tag, AllStand}
 use Rattle.promises.specs.Edges.{row}
-use Rattle.promises.specs.Wrong.{refuses_all, writes_on_refusal, one_fixed_report, writes_nothing, copies_the_first_line, makes_up_the_number, hides_beside_aRepeat, drops_aLine, copies_the_first_file, records_the_fallen, records_nothing, moves_the_stated_sum, bulks_first, ShutOut}
+use Rattle.promises.specs.Wrong.{refuses_all, writes_on_refusal, one_fixed_report, writes_nothing, copies_the_first_line, makes_up_the_number, hides_beside_a_repeat, drops_a_line, copies_the_first_file, records_the_fallen, records_nothing, moves_the_stated_sum, bulks_first, ShutOut}
 
 -- ---- bytes, by a test
 
@@ -172,7 +172,7 @@ shut_out =
       writes_nothing = λ s. zero_is_one (s (call_on one) (in_bytes one refl) refl).count;
       copies_the_first_line = λ s. zero_is_one (sym (s (call_on two) (in_bytes two refl) refl).bulks.1.0.accepted_number);
       makes_up_the_number = λ s. zero_is_one (ap (λ (n : ℕ). 2 - n) (s (call_on partial) (in_bytes partial refl) refl).bulks.0.accepted_number);
-      hides_beside_aRepeat = λ s. false≢true ((s repeated repeated_in_bytes refl).bulks.0.faults sum_wrong_bit);
+      hides_beside_a_repeat = λ s. false≢true ((s repeated repeated_in_bytes refl).bulks.0.faults sum_wrong_bit);
       closed_today_only = λ s. false≢true ((s (call_on (valued 20260614)) (in_bytes (valued 20260614) refl) refl).bulks.0.faults date_closed_bit);
       closed_by_the_call = λ s. false≢true ((s (call_on (valued 20260614)) (in_bytes (valued 20260614) refl) refl).bulks.0.faults date_closed_bit);
       open_on_easter_monday = λ s. false≢true ((s (call_on (valued 20260406)) (in_bytes (valued 20260406) refl) refl).bulks.0.faults date_closed_bit);
@@ -186,9 +186,9 @@ shut_out =
       leaves_the_bulk_first = λ s. zero_is_one (ap (λ (es : List (List ℕ)). 2 - tag_of es) (s (call_on one) (in_bytes one refl) refl).entries);
       writes_past_the_entries = λ s. zero_is_one (sym (ap (λ (e : List ℕ). get_or e 0 0) ((s (call_on one) (in_bytes one refl) refl).later_places 2 (lit≤ tt))));
       writes_past_the_report = λ s. zero_is_one (sym (ap (λ (r : List ℕ). get_or r 0 0) (s (call_on one) (in_bytes one refl) refl).later_bytes));
-      drops_aLine = λ s.
+      drops_a_line = λ s.
           zero_is_one (ap (λ (l : List ℕ). (length l - bulk_line_width) / bulk_line_width) (s (call_on two) (in_bytes two refl) refl 1 (lit≤ tt) space space (lit≤ tt) (lit≤ tt)).bulk_lines);
-      forgets_aLone_bulk = λ s.
+      forgets_a_lone_bulk = λ s.
           zero_is_one (ap (λ (r : List ℕ). (used r - 2) / 2) (s (call_on both) (in_bytes both refl) refl 1 (lit≤ tt) space space (lit≤ tt) (lit≤ tt)).register);
       copies_the_first_file = (call_on one, (refl, λ s. (s today table start (file one ∷ file one ∷ []) no_cents).once.0.0 (refl, refl)));
       records_the_fallen = λ s. zero_is_one (sym (ap length (s today table start (file fallen ∷ []) no_cents).messages));

@@ -52,11 +52,11 @@ module _ (terms : Terms) (table report : List ℕ) where
   -- of messages whose lines begin at place at, each is judged on the register that the lines before it make: with the key of each
   -- that says accepted
   unfoldable pub MessagesTell : List ℕ → Bool → List (List ℕ) → List ℕ → ℕ → Type 0
-  MessagesTell header fallen [] register at = Unit {0}
-  MessagesTell header fallen (m ∷ ms) register at =
+  MessagesTell header fell [] register at = Unit {0}
+  MessagesTell header fell (m ∷ ms) register at =
       let line = message_line_from report at in
-      MessageTells header fallen m register line
-      × MessagesTell header fallen ms (cond (says_accepted line) (add register (payment_key (payment_of header m))) register) (at + message_line_width)
+      MessageTells header fell m register line
+      × MessagesTell header fell ms (cond (says_accepted line) (add register (payment_key (payment_of header m))) register) (at + message_line_width)
 
   -- a bulk judged on a register, its line, and its section, which begins at place at
   pub record BulkTells (bulk : Bulk) (register line : List ℕ) (at : ℕ) : Type 0 where

@@ -78,8 +78,8 @@ abbrev pub makes_up_the_number : Judge
 makes_up_the_number call = where_judged (λ left. with_report left (sets left.report (first_line + accepted_number_place) (bytes_of number_width (length (first_bulk call).messages)))) call
 
 -- where the first bulk is a repeat, nothing else is shown
-abbrev pub hides_beside_aRepeat : Judge
-hides_beside_aRepeat call =
+abbrev pub hides_beside_a_repeat : Judge
+hides_beside_a_repeat call =
     where_judged (λ left.
     cond (shown (faults_in (bulk_line_from left.report first_line)) bulk_repeated_bit)
     (with_report left (sets left.report (first_line + faults_place) (bytes_of faults_width (2 ^ bulk_repeated_bit))))
@@ -159,15 +159,15 @@ writes_past_the_report call = where_judged (λ left. with_report left (sets left
 -- ---- of the third
 
 -- of a file of two bulks only the first one's line is written
-abbrev pub drops_aLine : Judge
-drops_aLine call =
+abbrev pub drops_a_line : Judge
+drops_a_line call =
     cond (eqb (bulk_count call.sheet) 2)
     (with_report (outcome call) (sets call.report 0 (bytes_of count_width 1 ++ bulk_line_from (outcome call).report first_line)))
     (outcome call)
 
 -- of a file of one bulk the last entry added does not come into use: its lines are right, and so is every other file
-abbrev pub forgets_aLone_bulk : Judge
-forgets_aLone_bulk call =
+abbrev pub forgets_a_lone_bulk : Judge
+forgets_a_lone_bulk call =
     where_judged (λ left. cond (eqb (bulk_count call.sheet) 1) (with_register left (sets left.register 0 (bytes_of used_width (used left.register - 1)))) left) call
 
 -- the report that the judge wrote on a call
@@ -217,7 +217,7 @@ pub record ShutOut : Type 0 where
   pub writes_nothing : EveryLineTells writes_nothing → ⊥
   pub copies_the_first_line : EveryLineTells copies_the_first_line → ⊥
   pub makes_up_the_number : EveryLineTells makes_up_the_number → ⊥
-  pub hides_beside_aRepeat : EveryLineTells hides_beside_aRepeat → ⊥
+  pub hides_beside_a_repeat : EveryLineTells hides_beside_a_repeat → ⊥
   pub closed_today_only : EveryLineTells (judges_dates_by closed_today_only) → ⊥
   pub closed_by_the_call : EveryLineTells (judges_dates_by closed_by_the_call) → ⊥
   pub open_on_easter_monday : EveryLineTells (judges_dates_by open_on_easter_monday) → ⊥
@@ -228,8 +228,8 @@ pub record ShutOut : Type 0 where
   pub leaves_the_bulk_first : LeavesTheRest records_the_bulk_first → ⊥
   pub writes_past_the_entries : LeavesTheRest writes_past_the_entries → ⊥
   pub writes_past_the_report : LeavesTheRest writes_past_the_report → ⊥
-  pub drops_aLine : CutsAnywhere drops_aLine → ⊥
-  pub forgets_aLone_bulk : CutsAnywhere forgets_aLone_bulk → ⊥
+  pub drops_a_line : CutsAnywhere drops_a_line → ⊥
+  pub forgets_a_lone_bulk : CutsAnywhere forgets_a_lone_bulk → ⊥
   -- some call that was judged, whose report is handed out again
   pub copies_the_first_file : (first : Call) × ((refusal first ≡ 0) × (RunsAsPromised (copies_the_first_file first) → ⊥))
   pub records_the_fallen : RunsAsPromised records_the_fallen → ⊥

@@ -122,10 +122,10 @@ pub record IndexedShutOut : Type 0 where
   pub refuses_every_index : IndexedMeets refuses_every_index → ⊥
   pub refuses_every_date : TellsAsPlain outcome refuses_every_date → ⊥
   pub writes_the_index_on_refusal : IndexedMeets writes_the_index_on_refusal → ⊥
-  pub indexes_no_bulk_in_aRun : IndexedRunsAsPromised indexes_no_bulk → ⊥
+  pub indexes_no_bulk_in_a_run : IndexedRunsAsPromised indexes_no_bulk → ⊥
   pub indexes_no_bulk : IndexedMeets indexes_no_bulk → ⊥
-  pub leaves_the_index_in_aCut : IndexedCutsAnywhere leaves_the_index → ⊥
-  pub leaves_the_index_in_aRun : IndexedRunsAsPromised leaves_the_index → ⊥
+  pub leaves_the_index_in_a_cut : IndexedCutsAnywhere leaves_the_index → ⊥
+  pub leaves_the_index_in_a_run : IndexedRunsAsPromised leaves_the_index → ⊥
   pub leaves_the_index : IndexedMeets leaves_the_index → ⊥
   pub counts_one_less : IndexedMeets counts_one_less → ⊥
   pub counts_nothing : IndexedMeets counts_nothing → ⊥

@@ -9,7 +9,7 @@ use lib.ListN.{length}
 use borrow.Author.Tests.{eqb-true, eqb-false, ltb-false, not-false, le-ltb, eq-eqb}
 use Rattle.calendar.specs.Date.{is_date}
 use Rattle.routing.specs.Table.{rows, well_formed}
-use Rattle.register.specs.Register.{free, well_formed as registerFormed}
+use Rattle.register.specs.Register.{free, well_formed as register_formed}
 use Rattle.register.specs.Room.{Formed}
 use Rattle.register.proofs.Laws.{formed_told, well_formed_lem}
 use Rattle.positions.specs.Positions.{position_width, room_for_all}
@@ -83,7 +83,7 @@ clear_of call e =
       date = not-false (is_date call.terms.date) (none Date);
       table = not-false (well_formed call.table) (none Table);
       places = eqb-true (length call.positions) (position_width * rows call.table) (not-false _ (none Positions));
-      formed = (formed_told call.register (registerFormed call.register) refl).formed (not-false (registerFormed call.register) (none Register));
+      formed = (formed_told call.register (register_formed call.register) refl).formed (not-false (register_formed call.register) (none Register));
       whole = not-false (whole call.sheet) (none Sheet);
       few_bulks = ltb-false most_bulks (bulk_count call.sheet) size.0;
       few_messages = ltb-false most_messages (message_count call.sheet) size.1;

@@ -3,7 +3,7 @@ use Rattle.std.specs.Prelude.{ℕ, ◌+◌, ◌*◌, Bool, false, cond, not, ◌
 use Rattle.wire.specs.Field.{same}
 use Rattle.calendar.specs.Date.{is_date}
 use Rattle.routing.specs.Table.{rows, well_formed}
-use Rattle.register.specs.Register.{free, well_formed as registerFormed}
+use Rattle.register.specs.Register.{free, well_formed as register_formed}
 use Rattle.index.specs.Index.{index_length, index_of}
 use Rattle.positions.specs.Positions.{fits, room_for_all}
 use Rattle.sheet.specs.Sheet.{bulk_count, message_count, whole, headers_of, kinds_known, mixed}
@@ -55,7 +55,7 @@ unfoldable pub holds_given : Bool → Bool → Refusal → Call → Bool
 holds_given wrong_length wrong_contents Date call = not (is_date call.terms.date)
 holds_given wrong_length wrong_contents Table call = not (well_formed call.table)
 holds_given wrong_length wrong_contents Positions call = not (fits call.positions (rows call.table))
-holds_given wrong_length wrong_contents Register call = not (registerFormed call.register)
+holds_given wrong_length wrong_contents Register call = not (register_formed call.register)
 holds_given wrong_length wrong_contents IndexLength call = wrong_length
 holds_given wrong_length wrong_contents IndexContents call = wrong_contents
 holds_given wrong_length wrong_contents Sheet call = not (whole call.sheet)
