@@ -4,4 +4,4 @@ use Rattle.tynderaxo.specs.Doors.{in_numbers}
 use Rattle.tynderaxo.proofs.tynderaxo_read.Goals as goal
 
 pub returns : goal.returns
-returns c = rw (c.number_of.ensures, c.length_of.ensures, c.place_in.ensures) (ap in_numbers c.read-reading.ensures)
+returns c = let told = ap in_numbers c.read-reading.ensures in cc
