@@ -12,7 +12,8 @@ const FIRST_YEAR: u32 = 2000;
 
 const LAST_YEAR: u32 = 2299;
 
-// The ends of the week, which is counted from Sunday on; the first day of FIRST_YEAR was a Saturday.
+// The ends of the week, which is counted from Sunday on; the first day of FIRST_YEAR was a Saturday. Numbers and no enum, since the
+// clause of `weekday` tells one.
 pub const SUNDAY: u32 = 0;
 
 pub const SATURDAY: u32 = 6;
@@ -77,7 +78,8 @@ fn days_of_months(y: u32, m: u32) -> u32
     }
 }
 
-// How many days a date lies after 1 January 2000.
+// How many days a date lies after 1 January 2000. A date is a number of which `is_date` holds, and no type: `day_after` tells of the last
+// one a number that is none.
 pub fn day_number(d: u32) -> u32
     requires { is_date d ≡ true }
     ensures { result ≡ day_number d }

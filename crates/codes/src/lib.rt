@@ -5,18 +5,17 @@
 ghost use Rattle.std.specs.Prelude.{◌≡◌, cond, ◌≤◌, length};
 ghost use Rattle.wording.specs.Wording.{upper, upper_or_digit, every, bic_formed, blank, one_of, reasons, answers_cancellation, names};
 
-// Whether A-Z, or 0-9 where digits may stand too, are at each place from `from` up to `to`.
+// Whether A-Z, or 0-9 where digits may stand too, are at each place from `from` up to `to`. The flag is plainer than a test handed in:
+// there are two.
 fn letters(s: &[u8], from: usize, to: usize, digits: bool) -> bool
     requires { to ≤ length s.now }
     ensures { result ≡ every (cond digits upper_or_digit upper) s.now from to }
 {
-    let mut i = from;
-    while i < to {
+    for i in from..to {
         let c = s[i];
         if !((b'A' <= c) & (c <= b'Z') | digits & ((b'0' <= c) & (c <= b'9'))) {
             return false;
         }
-        i += 1;
     }
     true
 }
@@ -35,12 +34,10 @@ pub fn bic_formed(s: &[u8]) -> bool
 pub fn blank(s: &[u8]) -> bool
     ensures { result ≡ blank s.now }
 {
-    let mut i = 0;
-    while i < s.len() {
+    for i in 0..s.len() {
         if s[i] != b' ' {
             return false;
         }
-        i += 1;
     }
     true
 }
@@ -50,12 +47,10 @@ pub fn known_reason(s: &[u8]) -> bool
     ensures { result ≡ one_of s.now reasons }
 {
     let codes = b"AC01AC04AC06AG01AG02AM05BE04CNORFOCRMD07MS02MS03RC01RR01RR02RR03RR04";
-    let mut i = 0;
-    while i < 17 {
+    for i in 0..17 {
         if texts::same(s, wire::text_at(codes, 4 * i, 4)) {
             return true;
         }
-        i += 1;
     }
     false
 }

@@ -1,5 +1,6 @@
 // Text and decimal numbers, written into a lent buffer one piece after another: each function takes the place to write at and
-// answers the place after. What has no room is not written, and no place is past the end.
+// answers the place after. What has no room is not written, and no place is past the end. The buffer and the place stay two parameters:
+// the public functions here and above take them so.
 #![tactic(auto)]
 
 ghost use Rattle.std.specs.Prelude.{◌≡◌, [], ◌∷◌, ◌+◌, ◌*◌, ◌^◌, ◌<◌, min, length};
@@ -36,28 +37,24 @@ pub fn put_byte(out: &mut [u8], at: usize, b: u8) -> usize
 fn width(v: u64) -> usize
     ensures { result ≡ length (decimal v) }
 {
-    let mut k: usize = 1;
-    let mut rest = v;
-    while 10 <= rest {
-        rest = rest / 10;
-        k += 1;
+    match v.checked_ilog10() {
+        Some(k) => k as usize + 1,
+        None => 1,
     }
-    k
 }
 
-// The last n digits, with the zeros in front: stored from the last one on.
+// The last n digits, with the zeros in front: stored from the last one on. Not one with `writing::put_number`: characters to the base 10
+// are no plainer as a case of bytes to the base 256.
 fn put_digits(out: &mut [u8], at: usize, n: usize, v: u64) -> usize
     ensures { Printed out.old out.new at result (digits_of n v) }
 {
     let room = out.len() - wire::least(at, out.len());
     let mut rest = v;
-    let mut i = n;
-    while 0 < i {
-        i -= 1;
+    for i in (0..n).rev() {
         if i < room {
             out[at + i] = b'0' + (rest % 10) as u8;
         }
-        rest = rest / 10;
+        rest /= 10;
     }
     place_after(at, n, out.len())
 }

@@ -6,22 +6,17 @@ use mathlib.Core.Option.{none, some}
 use Prim.Native.Nat.{ℕ, ◌+◌, ◌-◌, ◌≤◌}
 use native.Mathlib.Numerals.{add-one}
 use native.Mathlib.Omega.{arith}
-use lib.ListN.{length}
 use Rattle.slots.specs.Slots.{End, names}
 use Rattle.slots.specs.Stored.{searched_in, added}
-use Rattle.slots.specs.Asked.{Within, end_of, named_by}
+use Rattle.slots.specs.Asked.{end_of, named_by}
 use Rattle.slots.specs.declared.Layout.{Layout}
 use Rattle.slots.specs.declared.Ended.{Ended}
 use Rattle.slots.proofs.Walks.{names_told, names_least}
-use Rattle.slots.proofs.Laws.{picked_none, picked_length, picked_add, picked_skip, picked_first}
+use Rattle.slots.proofs.Laws.{picked_none, picked_add, picked_skip, picked_first}
 use Rattle.routing.specs.Table.{rows, bic_at}
 use Rattle.routing.specs.Promise.{Formed, RowTold}
 use Rattle.routing.specs.Lookup.{counts, row_of}
 use Rattle.directory.specs.Directory.{row_layout, slot_number, directory_length, blank, directory_to, directory_of}
-
--- the BICs of the rows lie in the table
-pub rows_within : (table : List ℕ) (k : ℕ) → Formed table → k ≤ rows table → Within row_layout table k
-rows_within table k f h i l = omega (arith, f.whole)
 
 -- ---- making
 
@@ -29,16 +24,6 @@ module _ (date : ℕ) (table : List ℕ) where
   pub make_starts : (directory : List ℕ) → directory ≡ blank → directory ≡ directory_to date table 0
   unfolding blank directory_to
   make_starts directory e = e ∙ sym (picked_none (counts date table) row_layout table directory_length)
-
-  to_length : (i : ℕ) → length (directory_to date table i) ≡ directory_length
-  unfolding directory_to
-  to_length i = picked_length (counts date table) row_layout table directory_length i
-
-  pub make_keeps : (first directory : List ℕ) (i : ℕ) → first ≡ blank → directory ≡ directory_to date table i → length directory ≡ length first
-  make_keeps first directory i ef ed = ap length ed ∙ to_length i ∙ sym (ap length (make_starts first ef) ∙ to_length 0)
-
-  pub make_ends : (directory : List ℕ) (i n : ℕ) → directory ≡ directory_to date table i → i ≤ n → n ≤ i → n ≡ rows table → directory ≡ directory_of date table
-  make_ends directory i n ed low high en = let all : i ≡ n = omega arith in ed ∙ ap (directory_to date table) (all ∙ en)
 
   module _ (i : ℕ) (directory : List ℕ) (ed : directory ≡ directory_to date table i) (t : Bool) (et : t ≡ counts date table i) where
     pub row_added : (bic : List ℕ) (layout : Layout) (e : End) → t ≡ true → layout ≡ row_layout → bic ≡ bic_at table i

@@ -8,7 +8,6 @@ ghost use Rattle.routing.specs.Promise.{RowTold};
 ghost use Rattle.directory.specs.Directory.{row_layout, directory_to, directory_of};
 ghost use Rattle.directory.specs.Ready.{Unmade, Begun, Made};
 
-use routing::Found;
 use slots::Layout;
 
 // A prime: by a power of two, keys to base 257 that differ in few characters would crowd. As many as leave a judgement, this array and all
@@ -46,15 +45,14 @@ pub fn make(date: u32, table: &[u8], directory: &mut [u8])
     ensures { directory.new ≡ directory_of date table.now }
 {
     let n = routing::rows(table);
-    let mut i = 0;
-    while i < n {
+    for i in 0..n {
         add_row(date, table, directory, i);
-        i += 1;
     }
 }
 
-// The row of a BIC on the date of the directory: the first that counts.
-pub fn row_of(date: u32, table: &[u8], directory: &[u8], bic: &[u8]) -> Found
+// The row of a BIC on the date of the directory: the first that counts. Table and slots are two parameters, as `make` needs them: it
+// reads the one and writes the other, an array of the caller's.
+pub fn row_of(date: u32, table: &[u8], directory: &[u8], bic: &[u8]) -> Option<usize>
     requires { Made date table.now directory.now }
     ensures { RowTold table.now (option_of result) (row_of date table.now bic.now) }
 {
@@ -62,37 +60,25 @@ pub fn row_of(date: u32, table: &[u8], directory: &[u8], bic: &[u8]) -> Found
     let ended = slots::search(row_layout(), table, n, bic, directory);
     let name = ended.name;
     if slots::names(n, name) {
-        Found::Row(name as usize - 1)
+        Some(name as usize - 1)
     } else {
-        Found::Nothing
+        None
     }
 }
 
 // The same for the head office.
-pub fn head_office_row(date: u32, table: &[u8], directory: &[u8], bic: &[u8]) -> Found
+pub fn head_office_row(date: u32, table: &[u8], directory: &[u8], bic: &[u8]) -> Option<usize>
     requires { Made date table.now directory.now }
     ensures { RowTold table.now (option_of result) (head_office_row date table.now bic.now) }
 {
     let head = routing::head_office(bic);
-    let text = head.text;
-    let n = head.length;
-    row_of(date, table, directory, &text[..n])
+    row_of(date, table, directory, head.as_slice())
 }
 
 // The row of a BIC: its own, else that of its head office.
-pub fn route(date: u32, table: &[u8], directory: &[u8], bic: &[u8]) -> Found
+pub fn route(date: u32, table: &[u8], directory: &[u8], bic: &[u8]) -> Option<usize>
     requires { Made date table.now directory.now }
     ensures { RowTold table.now (option_of result) (route date table.now bic.now) }
 {
-    let own = row_of(date, table, directory, bic);
-    match own {
-        Found::Row(i) => Found::Row(i),
-        Found::Nothing => {
-            if routing::is_head_office(bic) {
-                Found::Nothing
-            } else {
-                head_office_row(date, table, directory, bic)
-            }
-        }
-    }
+    routing::route_by(bic, |text| row_of(date, table, directory, text))
 }

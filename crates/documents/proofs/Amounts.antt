@@ -8,6 +8,7 @@ use lib.Dec.{eqb, ltb}
 use lib.ListN.{length, take, drop, replicate, drop_of_length-le}
 use lib.Seq.{take_at, take-length, get_or_at}
 use borrow.Author.Tests.{lt-ltb, le-leb, eqb-true, ltb-true}
+use Rattle.std.specs.Prelude.{Some}
 use Rattle.letters.specs.Places.{byte_at, run}
 use Rattle.letters.specs.References.{digit_of, numeral_from}
 use Rattle.decimals.specs.Decimal.{digits_of, decimal as printed}
@@ -15,7 +16,6 @@ use Rattle.decimals.proofs.Decimals.{digits_length}
 use Rattle.decimals.proofs.Lengths.{decimal_short}
 use Rattle.meanings.specs.Meanings.{digit, digits, decimal, wholes, parts, cents, amount_digits, is_amount, amount_meant}
 use Rattle.meanings.specs.Written.{decimal_text, amount_text}
-use Rattle.meanings.specs.declared.Meant.TheVariants.{Is}
 use Rattle.meanings.proofs.Decimals.{digit_false, digit_counts, digits_both, digits_none, decimal_snoc}
 use Rattle.meanings.proofs.Written.{amount_written, shown_digits, shown_number, printed_digits, printed_number, printed_some}
 use Rattle.documents.specs.Amounts.{carried_amount, tenths_text, euro_text}
@@ -24,7 +24,7 @@ use Rattle.documents.proofs.Here.{all, run_all}
 -- ---- what makes a text an amount
 
 amount_of_lem : (t : List ℕ) (n : ℕ) → (digits t || eqb (byte_at t (run digit t)) 46) ≡ true → digits (parts t) ≡ true → length (parts t) ≤ 2 → 1 ≤ amount_digits t → amount_digits t ≤ 18
-    → cents t ≡ n → n < 2 ^ 64 → amount_meant t ≡ Is n
+    → cents t ≡ n → n < 2 ^ 64 → amount_meant t ≡ Some n
 unfolding is_amount
 amount_of_lem t n formed behind few some short value fits =
     rw (formed, behind, le-leb (length (parts t)) 2 few, le-leb 1 (amount_digits t) some, le-leb (amount_digits t) 18 short, value, lt-ltb n (2 ^ 64) fits)
@@ -35,7 +35,7 @@ two_zeros : decimal (48 ∷ 48 ∷ []) ≡ 0
 unfolding numeral_from digit_of
 two_zeros = refl
 
-whole_written : (n : ℕ) → n % 100 ≡ 0 → n < 2 ^ 64 → amount_meant (decimal_text (n / 100)) ≡ Is n
+whole_written : (n : ℕ) → n % 100 ≡ 0 → n < 2 ^ 64 → amount_meant (decimal_text (n / 100)) ≡ Some n
 unfolding cents
 whole_written n even small =
     let t = printed (n / 100) in
@@ -73,7 +73,7 @@ filled_up n =
     zero_counts : digit_of 48 ≡ 0
     zero_counts = digit_counts 48 (omega arith) (omega arith)
 
-tenths_written : (n : ℕ) → n % 10 ≡ 0 → n < 10 ^ 19 → amount_meant (tenths_text n) ≡ Is n
+tenths_written : (n : ℕ) → n % 10 ≡ 0 → n < 10 ^ 19 → amount_meant (tenths_text n) ≡ Some n
 unfolding tenths_text cents
 tenths_written n even small =
     let t = tenths_text n in
@@ -92,7 +92,7 @@ tenths_written n even small =
 -- ---- whichever there is room for
 
 module _ (n : ℕ) where
-  pub euro_written : carried_amount n ≡ true → n < 2 ^ 64 → amount_meant (euro_text n) ≡ Is n
+  pub euro_written : carried_amount n ≡ true → n < 2 ^ 64 → amount_meant (euro_text n) ≡ Some n
   unfolding euro_text
   euro_written carried small = by_form (ltb n (10 ^ 18)) refl (eqb (n % 100) 0) refl carried
     where
@@ -101,7 +101,7 @@ module _ (n : ℕ) where
       first_held false h = h
 
       by_form : (a : Bool) → ltb n (10 ^ 18) ≡ a → (c : Bool) → eqb (n % 100) 0 ≡ c → (a || (eqb (n % 10) 0 && ltb n (10 ^ 19)) || c) ≡ true
-          → amount_meant (cond a (amount_text n) (cond c (decimal_text (n / 100)) (tenths_text n))) ≡ Is n
+          → amount_meant (cond a (amount_text n) (cond c (decimal_text (n / 100)) (tenths_text n))) ≡ Some n
       by_form true e c f h = amount_written n (ltb-true n (10 ^ 18) e)
       by_form false e true f h = whole_written n (eqb-true (n % 100) 0 f) small
       by_form false e false f h =

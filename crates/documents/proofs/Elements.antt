@@ -8,7 +8,7 @@ use lib.Dec.{eqb}
 use lib.ListN.{length, drop, get_or}
 use Rattle.wire.specs.Field.{text}
 use Rattle.letters.specs.Places.{byte_at}
-use Rattle.letters.specs.declared.Reach.TheVariants.{To}
+use Rattle.std.specs.Prelude.{Ok}
 use Rattle.tags.specs.Names.{name_start, name_byte, name_end, name_at}
 use Rattle.tags.specs.Tags.{start_at}
 use Rattle.tags.specs.declared.Tag.TheVariants.{Open}
@@ -89,7 +89,7 @@ pub record FieldRead (p : Parsed) (s : List ℕ) (role at : ℕ) (name said behi
   pub says : said_at s place ≡ said
 
 module _ (how : Spelling) (d : ℕ) (s : List ℕ) (parent role at : ℕ) (name said behind : List ℕ) (f : FieldFits parent role name said) where
-  started : (end inside : ℕ) → start_at s at ≡ Open end inside → in_euros role s (name_end s (at + 1)) end ≡ true → 0 < inside → name_at s (at + 1) ≡ name
+  started : (end inside : ℕ) → start_at s at ≡ Ok (Open end inside) → in_euros role s (name_end s (at + 1)) end ≡ true → 0 < inside → name_at s (at + 1) ≡ name
       → drop inside s ≡ spelled how said ++ close_to name behind → FieldRead (element_at (suc d) s role at) s role at name said behind
   unfolding element_at field_at filled_field
   started end inside start currency some named e =
@@ -149,7 +149,7 @@ module _ (d : ℕ) (s : List ℕ) (role at : ℕ) (name inside behind : List ℕ
 
 -- ---- content
 
-before_name : (s name : List ℕ) (at : ℕ) (ys : List ℕ) → is_name name ≡ true → drop at s ≡ 60 ∷ (name ++ ys) → (text_at s at ≡ To at) × (byte_at s (at + 1) ≡ 47 → ⊥)
+before_name : (s name : List ℕ) (at : ℕ) (ys : List ℕ) → is_name name ≡ true → drop at s ≡ 60 ∷ (name ++ ys) → (text_at s at ≡ Ok at) × (byte_at s (at + 1) ≡ 47 → ⊥)
 unfolding name_start
 before_name s name at ys named e =
     let on = next_here s at 60 (name ++ ys) e in
@@ -162,7 +162,7 @@ before_name s name at ys named e =
 
 -- a child, and the content behind it
 module _ (d : ℕ) (s : List ℕ) (parent at next role place : ℕ) (inner : Forest) (rest : Markup) (behind : List ℕ) where
-  child_then : (more : ContentRead (content_by (element_at d s) parent s next) s rest behind) → text_at s at ≡ To at → (byte_at s (at + 1) ≡ 47 → ⊥)
+  child_then : (more : ContentRead (content_by (element_at d s) parent s next) s rest behind) → text_at s at ≡ Ok at → (byte_at s (at + 1) ≡ 47 → ⊥)
       → element_at d s (child_role parent (name_at s (at + 1))) at ≡ read next (tree role place inner none)
       → content_by (element_at d s) parent s at ≡ read more.end (tree role place inner more.forest)
   unfolding beside

@@ -8,7 +8,7 @@ use native.Mathlib.Omega.{arith}
 use lib.Dec.{eqb, ltb}
 use lib.ListN.{length}
 use borrow.Author.Tests.{eqb-true, ltb-true, lt-ltb}
-use Rattle.wire.specs.Field.{Bytes, part, text, same}
+use Rattle.wire.specs.Field.{Bytes, text, same}
 use Rattle.wire.proofs.Texts.{part_bytes_lem}
 use Rattle.sheet.specs.Sheet.{Bulk, records_at, header_width, count_width, width_at, count_at, after_messages, bulk_count, first_section, bulks_from}
 use Rattle.sheet.proofs.Written.{EachCounted, Writable, written_holds}

@@ -6,12 +6,12 @@ use Prim.Native.Nat.{ℕ}
 use native.Mathlib.Omega.{arith}
 use lib.ListN.{length, take, replicate, length-replicate}
 use lib.Seq.{sets, sets-eq, take_at}
+use Rattle.std.specs.Prelude.{Ok}
 use Rattle.wire.specs.Field.{Bytes}
 use Rattle.sheet.specs.Written.{sheet_bytes}
 use Rattle.elements.specs.Grammar.{read}
 use Rattle.reading.specs.Meaning.{bulks_in, sheet_in}
 use Rattle.reading.specs.Reading.{reads, number_of, length_of}
-use Rattle.reading.specs.declared.Reading.TheVariants.{Made}
 use Rattle.reading.proofs.Made.{WasMade, was_made, front_left}
 use Rattle.documents.specs.Spelling.{as_it_stands}
 use Rattle.documents.specs.Brevity.{in_full}
@@ -24,7 +24,7 @@ use Rattle.documents.proofs.Octets.{all_bytes_lem, documents_bytes}
 
 -- ---- what is read is carried
 
-module _ (s space : List ℕ) (n : ℕ) (bytes : Bytes s) (made : (reads s space).answer ≡ Made n) where
+module _ (s space : List ℕ) (n : ℕ) (bytes : Bytes s) (made : (reads s space).answer ≡ Ok n) where
   abbrev was : WasMade s space
   was = was_made s space (ap number_of made)
 

@@ -8,6 +8,7 @@ use lib.Dec.{eqb, ltb}
 use lib.ListN.{length, take, drop, replicate}
 use lib.Seq.{take-add, drop-drop}
 use borrow.Author.Tests.{le-leb}
+use Rattle.std.specs.Prelude.{Some, None}
 use Rattle.wire.specs.Field.{Bytes, part, bytes_of, number_at}
 use Rattle.wire.proofs.Numbers.{read_written}
 use Rattle.wire.proofs.Texts.{part_bytes_lem, part_length}
@@ -16,7 +17,6 @@ use Rattle.letters.proofs.Characters.{width_first}
 use Rattle.decimals.specs.Decimal.{digits_of}
 use Rattle.meanings.specs.Meanings.{digits, is_number, is_date, is_amount, amount_meant}
 use Rattle.meanings.specs.Written.{decimal_text, amount_text, date_text}
-use Rattle.meanings.specs.declared.Meant.TheVariants.{Is, Nothing}
 use Rattle.meanings.proofs.Decimals.{digits_both, digit_bounds}
 use Rattle.meanings.proofs.Written.{number_written, date_written, shown_digits, printed_digits}
 use Rattle.paths.specs.Roles as roles
@@ -91,7 +91,7 @@ pub record Carries (role : ℕ) (said bytes : List ℕ) : Type 0 where
   pub form : fits role said ≡ true
   pub back : field_bytes role said ≡ bytes
 
-meant_held : (t : Bool) (m n : ℕ) → cond t (Is m) Nothing ≡ Is n → t ≡ true
+meant_held : (t : Bool) (m n : ℕ) → cond t (Some m) None ≡ Some n → t ≡ true
 meant_held true m n e = refl
 meant_held false m n e = absurd (let z : ◌≡◌ {A = ℕ} 0 1 = cc in omega arith)
 

@@ -12,8 +12,9 @@ use Rattle.letters.specs.Places.{byte_at}
 use Rattle.tags.specs.Names.{name_start, name_end, name_at}
 use Rattle.tags.specs.Attributes.{attributes_at}
 use Rattle.tags.specs.Tags.{closing, start_at, end_at}
+use Rattle.std.specs.Prelude.{Result, Ok, Err}
 use Rattle.tags.specs.declared.Tag.{Tag}
-use Rattle.tags.specs.declared.Tag.TheVariants.{Open, Empty, Faulty}
+use Rattle.tags.specs.declared.Tag.TheVariants.{Open, Empty}
 use Rattle.tags.proofs.Tags.{open_forward, empty_forward}
 use Rattle.prose.specs.Prose.{text_at, piece_at, said_at}
 use Rattle.prose.specs.declared.Piece.TheVariants.{Silent}
@@ -86,16 +87,16 @@ module _ (s : List ℕ) where
   -- ---- tags and what an empty one says
 
   -- a name stands behind the '<'
-  tag_named : (at e n : ℕ) → start_at s at ≡ Empty e n → name_start (byte_at s (at + 1)) ≡ true
+  tag_named : (at e n : ℕ) → start_at s at ≡ Ok (Empty e n) → name_start (byte_at s (at + 1)) ≡ true
   unfolding start_at
   tag_named at e n told = by_test (ltb at (length s)) (name_start (byte_at s (at + 1))) told
     where
-      by_test : (t u : Bool) → cond t (cond u (closing s (attributes_at s (name_end s (at + 1)))) (Faulty (at + 1))) (Faulty at) ≡ Empty e n → u ≡ true
+      by_test : (t u : Bool) → cond t (cond u (closing s (attributes_at s (name_end s (at + 1)))) (Err (at + 1))) (Err at) ≡ Ok (Empty e n) → u ≡ true
       by_test t true told = refl
       by_test true false told = absurd (let z : ◌≡◌ {A = ℕ} 0 1 = cc in omega arith)
       by_test false false told = absurd (let z : ◌≡◌ {A = ℕ} 0 1 = cc in omega arith)
 
-  tag_silent : (at e n : ℕ) → byte_at s at ≡ 60 → start_at s at ≡ Empty e n → said_at s at ≡ []
+  tag_silent : (at e n : ℕ) → byte_at s at ≡ 60 → start_at s at ≡ Ok (Empty e n) → said_at s at ≡ []
   unfolding said_at piece_at name_start
   tag_silent at e n sign told =
       let no_section = no_start s at (λ (z : byte_at s (at + 1) ≡ 33). false≢true (ap name_start (sym z) ∙ tag_named at e n told)) in
@@ -112,22 +113,22 @@ module _ (s : List ℕ) where
     unfolding Grown
     leaf place known inside form e = rw (← e) (refl, record { known = known; inside = inside; form = λ k. form }, tt, tt)
 
-    field_grown : byte_at s at ≡ 60 → roles.is_field role ≡ true → (tag : Tag) → start_at s at ≡ tag → field_at role s at tag ≡ read n f → Grown s (λ r. r ≡ role) f
+    field_grown : byte_at s at ≡ 60 → roles.is_field role ≡ true → (tag : Result Tag ℕ) → start_at s at ≡ tag → field_at role s at tag ≡ read n f → Grown s (λ r. r ≡ role) f
     unfolding field_at filled_field
-    field_grown sign is_field (Open end inside) is told =
+    field_grown sign is_field (Ok (Open end inside)) is told =
         let a = held (in_euros role s (name_end s (at + 1)) end) end (λ u. on_reached (text_at s inside) (λ e. provided (fits role (said_at s inside)) e (λ u. on_reached (end_at s at e) (λ n. read n (tree role inside none none))))) n f told in
         let b = reached (text_at s inside) (λ e. provided (fits role (said_at s inside)) e (λ u. on_reached (end_at s at e) (λ n. read n (tree role inside none none)))) n f a in
         let c = passed (fits role (said_at s inside)) b.mid (λ u. on_reached (end_at s at b.mid) (λ n. read n (tree role inside none none))) b.then in
         let d = reached (end_at s at b.mid) (λ n. read n (tree role inside none none)) n f c.1 in
         let t = text_forward s inside b.mid b.first in
         leaf inside (λ z. omega (arith, leb-true roles.bulk_identifier role is_field)) (omega arith) c.0 (let same : tree role inside none none ≡ f = cc in same)
-    field_grown sign is_field (Empty end next) is told =
+    field_grown sign is_field (Ok (Empty end next)) is told =
         let a = held (in_euros role s (name_end s (at + 1)) end) end (λ u. provided (fits role []) end (λ u. read next (tree role at none none))) n f told in
         let b = passed (fits role []) end (λ u. read next (tree role at none none)) a in
         let o = empty_forward s at end next is in
         let silent = tag_silent at end next sign is in
         leaf at (λ z. omega (arith, leb-true roles.bulk_identifier role is_field)) (omega arith) (rw silent b.0) (let same : tree role at none none ≡ f = cc in same)
-    field_grown sign is_field (Faulty p) is told = absurd (let z : ◌≡◌ {A = ℕ} 0 1 = cc in omega arith)
+    field_grown sign is_field (Err p) is told = absurd (let z : ◌≡◌ {A = ℕ} 0 1 = cc in omega arith)
 
     whole_grown : (inner : Forest) → at < length s → roles.is_field role ≡ false → Grown s (ChildOf role) inner → Grown s (λ r. r ≡ role) (whole role at inner)
     unfolding Grown
@@ -137,20 +138,20 @@ module _ (s : List ℕ) where
         by_test true e = tt
         by_test false e = (refl, record { known = eqb-false role roles.other e; inside = inside; form = λ k. absurd (false≢true (sym group ∙ k)) }, below, tt)
 
-    group_grown : (element : ℕ → ℕ → Parsed) → Grows element → roles.is_field role ≡ false → (tag : Tag) → start_at s at ≡ tag → group_at element role s at tag ≡ read n f
+    group_grown : (element : ℕ → ℕ → Parsed) → Grows element → roles.is_field role ≡ false → (tag : Result Tag ℕ) → start_at s at ≡ tag → group_at element role s at tag ≡ read n f
         → Grown s (λ r. r ≡ role) f
     unfolding Grown
-    group_grown element grows group (Open end inside) is told =
+    group_grown element grows group (Ok (Open end inside)) is told =
         let a = went (content_by element role s inside) (λ e f. on_reached (end_at s at e) (λ n. read n (whole role at f))) n f told in
         let d = reached (end_at s at a.mid) (λ n. read n (whole role at a.part)) n f a.then in
         let o = open_forward s at end inside is in
         let same : whole role at a.part ≡ f = cc in
         rw (← same) (whole_grown a.part (omega arith) group (content_grown element role grows inside a.mid a.part a.first))
-    group_grown element grows group (Empty end next) is told =
+    group_grown element grows group (Ok (Empty end next)) is told =
         let o = empty_forward s at end next is in
         let same : whole role at none ≡ f = cc in
         rw (← same) (whole_grown none (omega arith) group tt)
-    group_grown element grows group (Faulty p) is told = absurd (let z : ◌≡◌ {A = ℕ} 0 1 = cc in omega arith)
+    group_grown element grows group (Err p) is told = absurd (let z : ◌≡◌ {A = ℕ} 0 1 = cc in omega arith)
 
   pub element_grown : (depth : ℕ) → Grows (element_at depth s)
   unfolding element_at

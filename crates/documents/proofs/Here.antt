@@ -10,7 +10,7 @@ use lib.Seq.{drop-drop, drop-append_seam, take-append_seam, get_or-drop}
 use borrow.Author.Tests.{eq-eqb}
 use Rattle.wire.specs.Field.{part}
 use Rattle.letters.specs.Places.{byte_at, run, run_end, between, matches}
-use Rattle.letters.specs.declared.Reach.TheVariants.{To}
+use Rattle.std.specs.Prelude.{Ok}
 
 -- ---- bytes and parts
 
@@ -77,10 +77,10 @@ module _ (f : ℕ → Bool) (s : List ℕ) (at : ℕ) (t : List ℕ) (b : ℕ) (
 
 -- ---- words
 
-match_all : (word ys : List ℕ) (at : ℕ) → matches word (word ++ ys) at ≡ To (at + length word)
+match_all : (word ys : List ℕ) (at : ℕ) → matches word (word ++ ys) at ≡ Ok (at + length word)
 unfolding matches
-match_all [] ys at = ap To (omega arith)
-match_all (b ∷ bs) ys at = rw (eq-eqb b b refl) (match_all bs ys (at + 1) ∙ ap To (omega arith))
+match_all [] ys at = ap Ok (omega arith)
+match_all (b ∷ bs) ys at = rw (eq-eqb b b refl) (match_all bs ys (at + 1) ∙ ap Ok (omega arith))
 
-pub word_here : (s : List ℕ) (at : ℕ) (word ys : List ℕ) → drop at s ≡ word ++ ys → matches word (drop at s) at ≡ To (at + length word)
+pub word_here : (s : List ℕ) (at : ℕ) (word ys : List ℕ) → drop at s ≡ word ++ ys → matches word (drop at s) at ≡ Ok (at + length word)
 word_here s at word ys e = rw e (match_all word ys at)

@@ -9,6 +9,7 @@ use lib.Dec.{ltb, lit<}
 use lib.ListN.{length, get_or, get_or-eq_default}
 use lib.Seq.{sets}
 use borrow.Author.Tests.{ltb-true}
+use Rattle.std.specs.Prelude.{Ok}
 use Rattle.wire.specs.Field.{Bytes}
 use Rattle.wire.specs.Places.{every_from}
 use Rattle.wire.proofs.Scans.{every_holds}
@@ -18,7 +19,6 @@ use Rattle.sheet.specs.Written.{header_bytes, message_bytes, payment_bytes, shee
 use Rattle.sheet.proofs.Computing.{sheets_compute}
 use Rattle.letters.specs.Characters.{width_of, width_at}
 use Rattle.reading.specs.Reading.{reads, outcome}
-use Rattle.reading.specs.declared.Reading.TheVariants.{Made}
 use Rattle.documents.specs.Carried.{characters_by, CarriedMessages, CarriedBulk, CarriedEach, Carried}
 use Rattle.documents.specs.Documents.{Manner, documents_of}
 use Rattle.documents.proofs.ReadBack.{reads_back}
@@ -112,6 +112,6 @@ both_carried : Carried both
 unfolding CarriedEach
 both_carried = record { each = (payments_carried, (returns_carried, tt)); some = lit< tt; few = lit< tt }
 
-pub both_back : (manner : Manner) (space : List ℕ) → 304 ≤ length space → reads (documents_of manner both) space ≡ outcome (Made 304) (sets space 0 (sheet_bytes both))
+pub both_back : (manner : Manner) (space : List ℕ) → 304 ≤ length space → reads (documents_of manner both) space ≡ outcome (Ok 304) (sets space 0 (sheet_bytes both))
 unfolding sheets_compute payments returns
 both_back manner space room = reads_back manner both space both_carried room

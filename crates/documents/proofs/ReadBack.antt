@@ -9,7 +9,7 @@ use lib.Seq.{sets, drop-append_seam}
 use borrow.Author.Tests.{lt-ltb, le-ltb, le-leb, lt-leb}
 use Rattle.sheet.specs.Sheet.{Bulk}
 use Rattle.sheet.specs.Written.{sheet_bytes}
-use Rattle.letters.specs.declared.Reach.TheVariants.{To}
+use Rattle.std.specs.Prelude.{Ok, Result, Err}
 use Rattle.prolog.specs.Prolog.{prolog}
 use Rattle.prolog.proofs.Computing.{prolog_computes}
 use Rattle.elements.specs.Forest.{Forest}
@@ -18,8 +18,8 @@ use Rattle.elements.specs.Questions.{first_lack}
 use Rattle.reading.specs.Text.{roots_at, parsed}
 use Rattle.reading.specs.Meaning.{bulks_in, sheet_in, all_countable, fits_in}
 use Rattle.reading.specs.Reading.{answered, when_made, outcome, outcome_of, reads}
-use Rattle.reading.specs.declared.Reading.{Reading}
-use Rattle.reading.specs.declared.Reading.TheVariants.{Made, Short}
+use Rattle.reading.specs.declared.Unread.{Unread}
+use Rattle.reading.specs.declared.Unread.TheVariants.{Short}
 use Rattle.documents.specs.Markup.{written_to}
 use Rattle.documents.specs.Carried.{Carried}
 use Rattle.documents.specs.Documents.{documents, declaration, Manner, documents_of}
@@ -32,14 +32,14 @@ use Rattle.documents.proofs.Roots.{RootsRead, roots_read}
 abbrev opening : Bool → List ℕ
 opening declared = cond declared declaration []
 
-first_place : (declared : Bool) (ys : List ℕ) → prolog (opening declared ++ (60 ∷ 68 ∷ ys)) ≡ To (length (opening declared))
+first_place : (declared : Bool) (ys : List ℕ) → prolog (opening declared ++ (60 ∷ 68 ∷ ys)) ≡ Ok (length (opening declared))
 unfolding prolog_computes
 first_place true ys = refl
 first_place false ys = refl
 
 -- ---- the whole text
 
-parsed_from : (s : List ℕ) (at : ℕ) (r : Parsed) → prolog s ≡ To at → at < length s → roots_at s at ≡ r → parsed s ≡ r
+parsed_from : (s : List ℕ) (at : ℕ) (r : Parsed) → prolog s ≡ Ok at → at < length s → roots_at s at ≡ r → parsed s ≡ r
 unfolding parsed
 parsed_from s at r e inside was = rw (e, lt-ltb at (length s) inside, was)
 
@@ -66,19 +66,19 @@ parsed_back manner (b ∷ bs) c =
 
 module _ (s : List ℕ) (f : Forest) (bulks : List Bulk) (space : ℕ) (complete : (q : ℕ) → first_lack f q ≡ q) (countable : all_countable f ≡ true)
     (are : bulks_in s f ≡ bulks) (few : length bulks < 2 ^ 32) where
-  pub answer_made : length (sheet_bytes bulks) ≤ space → answered s space f ≡ Made (length (sheet_bytes bulks))
+  pub answer_made : length (sheet_bytes bulks) ≤ space → answered s space f ≡ Ok (length (sheet_bytes bulks))
   unfolding fits_in
   answer_made room =
       rw (complete (length s), le-ltb (length s) (length s) (omega arith), countable, are, lt-ltb (length bulks) (2 ^ 32) few, le-leb (length (sheet_bytes bulks)) space room)
 
-  pub answer_short : space < length (sheet_bytes bulks) → answered s space f ≡ Short
+  pub answer_short : space < length (sheet_bytes bulks) → answered s space f ≡ Err Short
   unfolding fits_in
   answer_short room =
       rw (complete (length s), le-ltb (length s) (length s) (omega arith), countable, are, lt-ltb (length bulks) (2 ^ 32) few, lt-leb (length (sheet_bytes bulks)) space room)
 
 -- ---- the call
 
-outcome_from : (s space : List ℕ) (p : Parsed) (end : ℕ) (f : Forest) (r : Reading) → p ≡ read end f → answered s (length space) f ≡ r
+outcome_from : (s space : List ℕ) (p : Parsed) (end : ℕ) (f : Forest) (r : Result ℕ Unread) → p ≡ read end f → answered s (length space) f ≡ r
     → outcome_of s space p ≡ outcome r (when_made r (sets space 0 (sheet_in s f)) space)
 outcome_from s space p end f r was told = rw (was, told)
 
@@ -89,13 +89,13 @@ reads_back manner bulks space c room =
     let p = parsed_back manner bulks c in
     let n = length (sheet_bytes bulks) in
     let made = answer_made s p.forest bulks (length space) p.complete p.countable p.bulks_are c.few room in
-    outcome_from s space (parsed s) p.end p.forest (Made n) p.was made
-    ∙ ap (λ (l : List Bulk). outcome (Made n) (sets space 0 (sheet_bytes l))) p.bulks_are
+    outcome_from s space (parsed s) p.end p.forest (Ok n) p.was made
+    ∙ ap (λ (l : List Bulk). outcome (Ok n) (sets space 0 (sheet_bytes l))) p.bulks_are
 
 pub told_short : ToldShort
 unfolding reads
 told_short manner bulks space c room =
     let s = documents_of manner bulks in
     let p = parsed_back manner bulks c in
-    outcome_from s space (parsed s) p.end p.forest Short p.was
+    outcome_from s space (parsed s) p.end p.forest (Err Short) p.was
     (answer_short s p.forest bulks (length space) p.complete p.countable p.bulks_are c.few room)

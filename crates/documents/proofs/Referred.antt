@@ -15,8 +15,7 @@ use Rattle.wire.proofs.Scans.{every_holds}
 use Rattle.wire.proofs.Sides.{le_or_lt}
 use Rattle.letters.specs.Places.{byte_at, run_end, between}
 use Rattle.letters.specs.Characters.{is_character}
-use Rattle.letters.specs.References.{digit_of, digit_in, numeral_from, numeral, numbered_at, reference_at}
-use Rattle.letters.specs.declared.Reference.TheVariants.{Stands}
+use Rattle.letters.specs.References.{digit_of, digit_in, numeral_from, numeral, numbered_at, reference_at, refers}
 use Rattle.letters.proofs.Characters.{character_high}
 use Rattle.decimals.specs.Decimal.{decimal}
 use Rattle.meanings.specs.Meanings.{digits}
@@ -29,7 +28,7 @@ use Rattle.documents.proofs.Here.{byte_here, skip_here, all, all_append, run_her
 
 module _ (base : ℕ) (s : List ℕ) (at : ℕ) (ds ys : List ℕ) (are : all (digit_in base) ds ≡ true) (stop : digit_in base 59 ≡ false) (some : 0 < length ds)
     (known : is_character (numeral base ds) ≡ true) (e : drop at s ≡ ds ++ (59 ∷ ys)) where
-  numbered_here : numbered_at base s at ≡ Stands (numeral base ds) (at + length ds + 1)
+  numbered_here : numbered_at base s at ≡ refers (numeral base ds) (at + length ds + 1)
   unfolding numbered_at
   numbered_here =
       let ends : run_end (digit_in base) s at ≡ at + length ds = run_here (digit_in base) s at ds 59 ys are stop e in
@@ -41,10 +40,10 @@ module _ (base : ℕ) (s : List ℕ) (at : ℕ) (ds ys : List ℕ) (are : all (d
 -- ---- which reference it is
 
 module _ (s : List ℕ) (at : ℕ) where
-  refers : (b : Bool) (left : List ℕ) → drop at s ≡ 38 ∷ 35 ∷ left → same (take 1 left) (120 ∷ []) ≡ b
+  by_third : (b : Bool) (left : List ℕ) → drop at s ≡ 38 ∷ 35 ∷ left → same (take 1 left) (120 ∷ []) ≡ b
       → reference_at s at ≡ cond b (numbered_at 16 s (at + 3)) (numbered_at 10 s (at + 2))
   unfolding reference_at same
-  refers b left e third = rw (e, third)
+  by_third b left e third = rw (e, third)
 
 -- ---- in decimal digits
 
@@ -64,7 +63,7 @@ no_x (d ∷ ds) ys e some =
     rw (ne_eqb d 120 (λ (z : d ≡ 120). false≢true (sym (ap (digit_in 10) z) ∙ first)))
 
 module _ (s : List ℕ) (at c : ℕ) (ys : List ℕ) (known : is_character c ≡ true) where
-  pub decimal_refers : drop at s ≡ decimal_reference c ++ ys → reference_at s at ≡ Stands c (at + length (decimal_reference c))
+  pub decimal_refers : drop at s ≡ decimal_reference c ++ ys → reference_at s at ≡ refers c (at + length (decimal_reference c))
   unfolding digit_of
   decimal_refers e =
       let ds = decimal c in
@@ -75,7 +74,7 @@ module _ (s : List ℕ) (at c : ℕ) (ys : List ℕ) (known : is_character c ≡
       let long : length (ds ++ (59 ∷ [])) ≡ length ds + 1 = length-append ds (59 ∷ []) in
       let told = numbered_here 10 s (at + 2) ds ys (decimal_all c) refl some (rw value known) inside in
       let next : at + 2 + length ds + 1 ≡ at + length (decimal_reference c) = omega arith in
-      refers s at false (ds ++ (59 ∷ ys)) here (no_x ds (59 ∷ ys) (decimal_all c) some) ∙ told ∙ (rw (value, next))
+      by_third s at false (ds ++ (59 ∷ ys)) here (no_x ds (59 ∷ ys) (decimal_all c) some) ∙ told ∙ (rw (value, next))
 
 -- ---- in hexadecimal ones
 
@@ -133,7 +132,7 @@ module _ (c : ℕ) (known : is_character c ≡ true) where
   pub hexadecimal_all : all (digit_in 16) (hexadecimal_in 6 c) ≡ true
   hexadecimal_all = (hexadecimal_told 6 c six).0
 
-  pub hexadecimal_refers : (s : List ℕ) (at : ℕ) (ys : List ℕ) → drop at s ≡ hexadecimal_reference c ++ ys → reference_at s at ≡ Stands c (at + length (hexadecimal_reference c))
+  pub hexadecimal_refers : (s : List ℕ) (at : ℕ) (ys : List ℕ) → drop at s ≡ hexadecimal_reference c ++ ys → reference_at s at ≡ refers c (at + length (hexadecimal_reference c))
   unfolding digit_of same
   hexadecimal_refers s at ys e =
       let ds = hexadecimal_in 6 c in
@@ -143,4 +142,4 @@ module _ (c : ℕ) (known : is_character c ≡ true) where
       let long : length (ds ++ (59 ∷ [])) ≡ length ds + 1 = length-append ds (59 ∷ []) in
       let told = numbered_here 16 s (at + 3) ds ys hexadecimal_all refl (hexadecimal_some 5 c) (rw value known) inside in
       let next : at + 3 + length ds + 1 ≡ at + length (hexadecimal_reference c) = omega arith in
-      refers s at true (120 ∷ (ds ++ (59 ∷ ys))) here refl ∙ told ∙ (rw (value, next))
+      by_third s at true (120 ∷ (ds ++ (59 ∷ ys))) here refl ∙ told ∙ (rw (value, next))

@@ -11,8 +11,8 @@ use Rattle.wire.specs.Field.{part}
 use Rattle.letters.specs.Places.{byte_at}
 use Rattle.letters.specs.Characters.{is_character, encoded, width_at}
 use Rattle.letters.specs.References.{stands, reference_at}
+use Rattle.std.specs.Prelude.{Option, Some, None}
 use Rattle.letters.specs.declared.Reference.{Reference}
-use Rattle.letters.specs.declared.Reference.TheVariants.{Stands, Nothing}
 use Rattle.letters.proofs.References.{reference_character}
 use Rattle.prose.specs.Prose.{piece_at, plain_piece, line_end, itself_of, other_of, saying, said_by, said_at, section_start, section_end}
 use Rattle.prose.specs.declared.Piece.{Piece}
@@ -84,9 +84,9 @@ module _ (s : List ℕ) (at : ℕ) where
   either true x y f g = f refl
   either false x y f g = g refl
 
-  other_good : (r : Reference) → reference_at s at ≡ r → Good s at (other_of r)
-  other_good (Stands c next) e = reference_character s at c next e
-  other_good Nothing e = tt
+  other_good : (r : Option Reference) → reference_at s at ≡ r → Good s at (other_of r)
+  other_good (Some r) e = reference_character s at r.character r.next e
+  other_good None e = tt
 
   plain_good : Good s at (plain_piece s at)
   unfolding is_character

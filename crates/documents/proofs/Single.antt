@@ -13,7 +13,7 @@ use Rattle.sheet.specs.Sheet.{Bulk, payment_kind, return_kind}
 use Rattle.sheet.specs.Sheet as sheet
 use Rattle.paths.specs.Roles as roles
 use Rattle.paths.specs.Table.{rows, all_met, lacks}
-use Rattle.records.specs.Records.{kind_of, header_of, message_of}
+use Rattle.records.specs.Records.{header_of, message_of}
 use Rattle.records.proofs.Laws.{header_told}
 use Rattle.elements.specs.Forest.{Forest, none, tree, count_of}
 use Rattle.elements.specs.Questions.{place_in, messages_in}

@@ -15,22 +15,22 @@ use Rattle.wire.proofs.Scans.{every_holds}
 use Rattle.wire.proofs.Texts.{same_equal}
 use Rattle.letters.specs.Places.{byte_at, run, between}
 use Rattle.letters.specs.Characters.{is_character, single}
-use Rattle.letters.specs.References.{digit_of, digit_in, numeral_from, numeral, numbered_at, stands, reference_at}
+use Rattle.letters.specs.References.{digit_of, digit_in, numeral_from, numeral, numbered_at, stands, reference_at, refers}
+use Rattle.std.specs.Prelude.{Option, Some, None}
 use Rattle.letters.specs.declared.Reference.{Reference}
-use Rattle.letters.specs.declared.Reference.TheVariants.{Stands, Nothing}
 use Rattle.decimals.specs.Decimal.{digits_of, decimal_in, decimal}
 use Rattle.documents.specs.Spelling.{Way, itself, decimally, hexadecimally, by_name, referred, hexadecimal_in, spelled_by}
 
 -- ---- a reference by what is left of the text
 
-abbrev moved : ℕ → Reference → Reference
-moved at (Stands c next) = Stands c (at + next)
-moved at Nothing = Nothing
+abbrev moved : ℕ → Option Reference → Option Reference
+moved at (Some r) = refers r.character (at + r.next)
+moved at None = None
 
 -- a number, from whether there are digits, what is behind them, they, and the place after it
-abbrev numbered_if : ℕ → Bool → ℕ → List ℕ → ℕ → Reference
+abbrev numbered_if : ℕ → Bool → ℕ → List ℕ → ℕ → Option Reference
 numbered_if base some b digits next =
-    cond some (cond (eqb b 59) (cond (is_character (numeral base digits)) (Stands (numeral base digits) next) Nothing) Nothing) Nothing
+    cond some (cond (eqb b 59) (cond (is_character (numeral base digits)) (refers (numeral base digits) next) None) None) None
 
 module _ (base at : ℕ) where
   numbered_moved : (some other : Bool) (b c : ℕ) (xs ys : List ℕ) (m n : ℕ) → some ≡ other → b ≡ c → xs ≡ ys → m ≡ at + n
@@ -38,8 +38,8 @@ module _ (base at : ℕ) where
   numbered_moved some other b c xs ys m n p q r t = rw (p, q, r, t) (by_tests_lem other (eqb c 59) (is_character (numeral base ys)))
     where
       by_tests_lem : (t u v : Bool)
-          → cond t (cond u (cond v (Stands (numeral base ys) (at + n)) Nothing) Nothing) Nothing
-          ≡ moved at (cond t (cond u (cond v (Stands (numeral base ys) n) Nothing) Nothing) Nothing)
+          → cond t (cond u (cond v (refers (numeral base ys) (at + n)) None) None) None
+          ≡ moved at (cond t (cond u (cond v (refers (numeral base ys) n) None) None) None)
       by_tests_lem true true true = refl
       by_tests_lem true true false = refl
       by_tests_lem true false v = refl
@@ -70,9 +70,9 @@ module _ (s : List ℕ) (at : ℕ) where
       (stands s at (text "&#x")) (stands s at (text "&#")) (numbered_at 16 s (at + 3)) (numbered_at 10 s (at + 2))
       (numbered_at 16 (drop at s) 3) (numbered_at 10 (drop at s) 2) (number_moved 16 3) (number_moved 10 2)
     where
-      by_tests_lem : (a b c d e f g : Bool) (x y u v : Reference) → x ≡ moved at u → y ≡ moved at v
-          → cond a (Stands 60 (at + 4)) (cond b (Stands 62 (at + 4)) (cond c (Stands 38 (at + 5)) (cond d (Stands 39 (at + 6)) (cond e (Stands 34 (at + 6)) (cond f x (cond g y Nothing))))))
-          ≡ moved at (cond a (Stands 60 4) (cond b (Stands 62 4) (cond c (Stands 38 5) (cond d (Stands 39 6) (cond e (Stands 34 6) (cond f u (cond g v Nothing)))))))
+      by_tests_lem : (a b c d e f g : Bool) (x y u v : Option Reference) → x ≡ moved at u → y ≡ moved at v
+          → cond a (refers 60 (at + 4)) (cond b (refers 62 (at + 4)) (cond c (refers 38 (at + 5)) (cond d (refers 39 (at + 6)) (cond e (refers 34 (at + 6)) (cond f x (cond g y None))))))
+          ≡ moved at (cond a (refers 60 4) (cond b (refers 62 4) (cond c (refers 38 5) (cond d (refers 39 6) (cond e (refers 34 6) (cond f u (cond g v None)))))))
       by_tests_lem true b c d e f g x y u v p q = refl
       by_tests_lem false true c d e f g x y u v p q = refl
       by_tests_lem false false true d e f g x y u v p q = refl
@@ -86,11 +86,11 @@ module _ (s : List ℕ) (at : ℕ) where
 
 pub data Spelt (s : List ℕ) (at c : ℕ) (word : List ℕ) : Type 0 where
   plain : word ≡ c ∷ [] → referred c ≡ false → Spelt s at c word
-  refers_to : reference_at s at ≡ Stands c (at + length word) → Spelt s at c word
+  refers_to : reference_at s at ≡ refers c (at + length word) → Spelt s at c word
 
-abbrev stands_for : ℕ → ℕ → Reference → Bool
-stands_for c n (Stands d m) = eqb d c && eqb m n
-stands_for c n Nothing = false
+abbrev stands_for : ℕ → ℕ → Option Reference → Bool
+stands_for c n (Some r) = eqb r.character c && eqb r.next n
+stands_for c n None = false
 
 abbrev right : List ℕ → List ℕ → ℕ → Bool
 right word ys c = not (single c) || (same word (c ∷ []) && not (referred c)) || stands_for c (length word) (reference_at (word ++ ys) 0)
@@ -103,11 +103,11 @@ every_right decimally ys = refl
 every_right hexadecimally ys = refl
 every_right by_name ys = refl
 
-told_stands : (c n : ℕ) (r : Reference) → stands_for c n r ≡ true → r ≡ Stands c n
-told_stands c n (Stands d m) e =
-    let both = (and-eq-true_iff (eqb d c) (eqb m n)).0 e in
-    rw (eqb-true d c both.0, eqb-true m n both.1)
-told_stands c n Nothing e = absurd (false≢true e)
+told_stands : (c n : ℕ) (r : Option Reference) → stands_for c n r ≡ true → r ≡ refers c n
+told_stands c n (Some r) e =
+    let both = (and-eq-true_iff (eqb r.character c) (eqb r.next n)).0 e in
+    rw (← (eqb-true r.character c both.0), ← (eqb-true r.next n both.1))
+told_stands c n None e = absurd (false≢true e)
 
 -- at any place
 module _ (s : List ℕ) (at c : ℕ) (word ys : List ℕ) (one : single c ≡ true) (e : drop at s ≡ word ++ ys) where

@@ -10,7 +10,7 @@ use lib.Seq.{drop-drop}
 use Rattle.wire.specs.Field.{text, same}
 use Rattle.letters.specs.Places.{byte_at}
 use Rattle.letters.specs.Characters.{single}
-use Rattle.letters.specs.declared.Reach.TheVariants.{To}
+use Rattle.std.specs.Prelude.{Ok}
 use Rattle.letters.specs.declared.Turn.TheVariants.{On, Ends}
 use Rattle.letters.proofs.Characters.{width_first}
 use Rattle.tags.specs.Names.{is_space, name_start, name_byte, space_end, name_end, name_at}
@@ -100,28 +100,28 @@ module _ (s : List ℕ) (from : ℕ) (ys : List ℕ) (e : drop from s ≡ text "
   letter at c b p q r one =
       value_turn_lem 34 s at (On (at + 1)) (rw (b, p, q, r) (rw (← (width_first s at (rw b one)))))
 
-  value_ends : value_at 34 s (from + 6) ≡ To (from + 10)
+  value_ends : value_at 34 s (from + 6) ≡ Ok (from + 10)
   unfolding value_turn
   value_ends =
       letter (from + 6) 69 (byte 6) refl refl refl refl
       ∙ ap (value_at 34 s) (omega arith) ∙ letter (from + 7) 85 (byte 7) refl refl refl refl
       ∙ ap (value_at 34 s) (omega arith) ∙ letter (from + 8) 82 (byte 8) refl refl refl refl
-      ∙ ap (value_at 34 s) (omega arith) ∙ value_turn_lem 34 s (from + 9) (Ends (from + 9 + 1)) (rw (byte 9)) ∙ ap To (omega arith)
+      ∙ ap (value_at 34 s) (omega arith) ∙ value_turn_lem 34 s (from + 9) (Ends (from + 9 + 1)) (rw (byte 9)) ∙ ap Ok (omega arith)
 
-  attribute_ends : attribute_at s (from + 1) ≡ To (from + 10)
+  attribute_ends : attribute_at s (from + 1) ≡ Ok (from + 10)
   attribute_ends =
       let five : from + 5 ≡ space_end s (from + 4 + 1) = sym quote_at_lem ∙ ap (λ (p : ℕ). space_end s (p + 1)) equals_at_lem in
       let six : from + 5 + 1 ≡ from + 6 = omega arith in
       sym (attribute_value s (from + 1) (from + 4) (sym equals_at_lem) (byte 4) (from + 5) five (rw (byte 5)))
       ∙ (rw (byte 5, six) value_ends)
 
-  pub attributes_end : attributes_at s from ≡ To (from + 10)
+  pub attributes_end : attributes_at s from ≡ Ok (from + 10)
   unfolding attributes_at is_space name_start
   attributes_end =
       let spaced : is_space (byte_at s from) ≡ true = ap is_space (byte_here s from 32 (text "Ccy=\"EUR\"" ++ (62 ∷ ys)) e) in
       let begins : name_start (byte_at s (from + 1)) ≡ true = ap name_start (byte 1) in
       let fresh : named s from (from + 1) ≡ false = sym (some_past (λ k. same (name_at s k) (name_at s (from + 1))) s (from + 1) from (from + 1) (sym spaces_end) (omega arith)) in
-      let first = turn_on s from from spaced (from + 1) (sym spaces_end) begins fresh (To (from + 10)) attribute_ends in
+      let first = turn_on s from from spaced (from + 1) (sym spaces_end) begins fresh (Ok (from + 10)) attribute_ends in
       let last = turn_plain s from (from + 10) (ap is_space (byte 10)) in
       attributes_turn s from from (On (from + 10)) (sym first) ∙ attributes_turn s from (from + 10) (Ends (from + 10)) (sym last)
 
@@ -147,7 +147,7 @@ module _ (s : List ℕ) (from : ℕ) (ys : List ℕ) (e : drop from s ≡ text "
 -- ---- start tags
 
 module _ (s name : List ℕ) (at : ℕ) (ys : List ℕ) (is : is_name name ≡ true) where
-  pub plain_start : drop at s ≡ open_to name [] ys → start_at s at ≡ Open (at + 1 + length name) (at + 1 + length name + 1)
+  pub plain_start : drop at s ≡ open_to name [] ys → start_at s at ≡ Ok (Open (at + 1 + length name) (at + 1 + length name + 1))
   unfolding name_byte name_start
   plain_start e =
       let on = next_here s at 60 (name ++ (62 ∷ ys)) e in
@@ -155,7 +155,7 @@ module _ (s name : List ℕ) (at : ℕ) (ys : List ℕ) (is : is_name name ≡ t
       let behind = skip_here s (at + 1) name (62 ∷ ys) on in
       sym (start_plain s at (starts_here s name (at + 1) (62 ∷ ys) is on) (at + 1 + length name) (sym ends) (byte_here s (at + 1 + length name) 62 ys behind))
 
-  pub euro_start : drop at s ≡ open_to name (text " Ccy=\"EUR\"") ys → start_at s at ≡ Open (at + 1 + length name + 10) (at + 1 + length name + 10 + 1)
+  pub euro_start : drop at s ≡ open_to name (text " Ccy=\"EUR\"") ys → start_at s at ≡ Ok (Open (at + 1 + length name + 10) (at + 1 + length name + 10 + 1))
   unfolding name_byte name_start
   euro_start e =
       let rest = text "Ccy=\"EUR\"" ++ (62 ∷ ys) in
@@ -163,13 +163,13 @@ module _ (s name : List ℕ) (at : ℕ) (ys : List ℕ) (is : is_name name ≡ t
       let ends = name_ends s name (at + 1) 32 rest is refl on in
       let behind = skip_here s (at + 1) name (32 ∷ rest) on in
       sym
-      (start_named s at (starts_here s name (at + 1) (32 ∷ rest) is on) (at + 1 + length name) (sym ends) (To (at + 1 + length name + 10)) (attributes_end s (at + 1 + length name) ys behind))
+      (start_named s at (starts_here s name (at + 1) (32 ∷ rest) is on) (at + 1 + length name) (sym ends) (Ok (at + 1 + length name + 10)) (attributes_end s (at + 1 + length name) ys behind))
       ∙ sym (closed_open s (at + 1 + length name + 10) (byte s (at + 1 + length name) ys behind 10))
 
 -- ---- end tags
 
 module _ (s name : List ℕ) (start at : ℕ) (ys : List ℕ) (is : name_at s (start + 1) ≡ name) (e : drop at s ≡ close_to name ys) where
-  pub end_here : end_at s start at ≡ To (at + 2 + length name + 1)
+  pub end_here : end_at s start at ≡ Ok (at + 2 + length name + 1)
   unfolding end_at is_space
   end_here =
       let two = skip_here s at (text "</") (name ++ (62 ∷ ys)) e in

@@ -11,11 +11,10 @@ use Rattle.wire.specs.Field.{same}
 use Rattle.wire.proofs.Sides.{both_false}
 use Rattle.letters.specs.Places.{byte_at, on_turn}
 use Rattle.letters.specs.Characters.{encoded, single, width_at}
-use Rattle.letters.specs.References.{stands, reference_at}
-use Rattle.letters.specs.declared.Reach.TheVariants.{To}
+use Rattle.letters.specs.References.{stands, reference_at, refers}
+use Rattle.std.specs.Prelude.{Ok}
 use Rattle.letters.specs.declared.Turn.{Turn}
 use Rattle.letters.specs.declared.Turn.TheVariants.{On, Ends}
-use Rattle.letters.specs.declared.Reference.TheVariants.{Stands}
 use Rattle.letters.proofs.Characters.{within_true, encoded_one, width_first}
 use Rattle.letters.proofs.References.{reference_forward, stands_differs}
 use Rattle.letters.proofs.Walks.{walk_turn}
@@ -53,7 +52,7 @@ module _ (s : List ℕ) (at : ℕ) where
         said_piece s false at (Itself (length xs)) (rw (a, b, c, width, wide)) ∙ ap (λ (l : List ℕ). l ++ said_at s (at + length xs)) (part_here s at xs ys e),
       )
 
-  reference_says : (c next : ℕ) (xs : List ℕ) → reference_at s at ≡ Stands c next → encoded c ≡ xs → Says xs next
+  reference_says : (c next : ℕ) (xs : List ℕ) → reference_at s at ≡ refers c next → encoded c ≡ xs → Says xs next
   unfolding text_turn piece_at said_at
   reference_says c next xs e is =
       let sign = (reference_forward s at c next e).2 in (
@@ -62,7 +61,7 @@ module _ (s : List ℕ) (at : ℕ) where
       )
 
   -- the text is over, and says nothing more
-  pub text_over : (ys : List ℕ) → (get_or ys 0 0 ≡ 33 → ⊥) → drop at s ≡ 60 ∷ ys → (text_at s at ≡ To at) × (said_at s at ≡ [])
+  pub text_over : (ys : List ℕ) → (get_or ys 0 0 ≡ 33 → ⊥) → drop at s ≡ 60 ∷ ys → (text_at s at ≡ Ok at) × (said_at s at ≡ [])
   unfolding text_turn piece_at said_at same
   text_over ys other e =
       let sign = byte_here s at 60 ys e in
@@ -124,7 +123,7 @@ some_left a t h = omega (arith, eqb-true (suc (length t)) 0 h)
 
 -- it ends at the '<' behind it, and says what was spelled
 pub record TextRead (s : List ℕ) (at : ℕ) (word said : List ℕ) : Type 0 where
-  pub ends : text_at s at ≡ To (at + length word)
+  pub ends : text_at s at ≡ Ok (at + length word)
   pub says : said_at s at ≡ said
 
 -- a character and what is behind it
@@ -133,7 +132,7 @@ module _ (s : List ℕ) (at : ℕ) (xs word rest said : List ℕ) where
   then_read first behind =
       let place : at + length word + length rest ≡ at + length (word ++ rest) = rw (length-append word rest) (omega arith) in
       record {
-        ends = first.0 ∙ behind.ends ∙ ap To place;
+        ends = first.0 ∙ behind.ends ∙ ap Ok place;
         says = first.1 ∙ ap (λ (l : List ℕ). xs ++ l) behind.says;
       }
 
@@ -175,7 +174,7 @@ module _ (how : Spelling) (n : ℕ) (s ys : List ℕ) (rest : Reads how n s ys) 
 
 module _ (how : Spelling) (s ys : List ℕ) where
   none_read : (at : ℕ) → drop at s ≡ 60 ∷ 47 ∷ ys → TextRead s at [] []
-  none_read at e = let over = text_over s at (47 ∷ ys) (λ z. omega arith) e in record { ends = over.0 ∙ ap To (omega arith); says = over.1 }
+  none_read at e = let over = text_over s at (47 ∷ ys) (λ z. omega arith) e in record { ends = over.0 ∙ ap Ok (omega arith); says = over.1 }
 
   reads_by : (n : ℕ) → Reads how n s ys
   unfolding spelled_in

@@ -1,21 +1,21 @@
 // What is asked of the calendar of open days. A question is told by its own line.
 use crate::{say, words};
-use opendays::Answer;
+use opendays::Unanswered;
 use std::io;
 
 // Whether a day is open.
-fn tell_open(rt: &impl Print, answer: Answer) -> io::Result<()> {
+fn tell_open(rt: &impl Print, answer: Result<u32, Unanswered>) -> io::Result<()> {
     match answer {
-        Answer::Told(value) => say::open(rt, value == 1),
-        _ => say::refusal(rt, opendays::number_of(answer)),
+        Ok(value) => say::open(rt, value == 1),
+        Err(_) => say::refusal(rt, opendays::number_of(answer)),
     }
 }
 
 // A day, or how many.
-fn tell_value(rt: &impl Print, answer: Answer) -> io::Result<()> {
+fn tell_value(rt: &impl Print, answer: Result<u32, Unanswered>) -> io::Result<()> {
     match answer {
-        Answer::Told(value) => say::value(rt, value),
-        _ => say::refusal(rt, opendays::number_of(answer)),
+        Ok(value) => say::value(rt, value),
+        Err(_) => say::refusal(rt, opendays::number_of(answer)),
     }
 }
 

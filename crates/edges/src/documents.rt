@@ -1,6 +1,5 @@
 // The text of documents that lines write, and what it is read as.
 use crate::{say, words};
-use reading::Reading;
 use std::io;
 
 const MOST_TEXT: usize = 4096;
@@ -10,68 +9,66 @@ const MOST_SPACE: usize = 256;
 
 const MARK: u8 = 165;
 
-// Where the text ends, and where it ended at the line `mark`.
-#[derive(Clone, Copy)]
-pub(crate) struct Ends {
-    pub text: usize,
-    pub mark: usize,
+// The text, with where it ends and where it ended at the line `mark`: an array, since there is no heap.
+#[derive(Drop)]
+pub(crate) struct Text {
+    bytes: [u8; MOST_TEXT],
+    end: usize,
+    mark: usize,
 }
 
-pub(crate) fn empty() -> [u8; MOST_TEXT] {
-    [0u8; MOST_TEXT]
-}
-
-// So many times the same words, and the place after them.
-fn put_again(text: &mut [u8], at: usize, words: &[u8], n: u32) -> usize {
-    let mut end = at;
-    let mut i = 0;
-    while i < n {
-        end = decimals::put(text, end, words);
-        i += 1;
+pub(crate) fn empty() -> Text {
+    Text {
+        bytes: [0u8; MOST_TEXT],
+        end: 0,
+        mark: 0,
     }
-    end
 }
 
-fn ended(text: usize, mark: usize) -> Ends {
-    Ends { text, mark }
-}
+impl Text {
+    fn put(&mut self, words: &[u8]) {
+        self.end = decimals::put(&mut self.bytes, self.end, words);
+    }
 
-// A line that changes the text.
-pub(crate) fn change(line: &[u8], text: &mut [u8], ends: Ends) -> Ends {
-    let end = ends.text;
-    let mark = ends.mark;
-    match wire::u8_at(line, 0) {
-        b'n' => ended(0, 0),
-        b't' => ended(decimals::put(text, end, words::rest(line, 1)), mark),
-        b'a' => ended(
-            put_again(text, end, words::rest(line, 2), words::count(line, 1)),
-            mark,
-        ),
-        b'm' => ended(end, end),
-        b'b' => ended(mark, mark),
-        _ => ended(end, mark),
+    // So many times the same words.
+    fn put_again(&mut self, words: &[u8], n: u32) {
+        for _ in 0..n {
+            self.put(words);
+        }
+    }
+
+    // A line that changes the text.
+    pub(crate) fn change(&mut self, line: &[u8]) {
+        match wire::u8_at(line, 0) {
+            b'n' => {
+                self.end = 0;
+                self.mark = 0;
+            }
+            b't' => self.put(words::rest(line, 1)),
+            b'a' => self.put_again(words::rest(line, 2), words::count(line, 1)),
+            b'm' => self.mark = self.end,
+            b'b' => self.end = self.mark,
+            _ => {}
+        }
+    }
+
+    // What is written so far.
+    pub(crate) fn written(&self) -> &[u8] {
+        wire::text_at(&self.bytes, 0, self.end)
     }
 }
 
 // How many bytes of the space are as they were lent.
 fn kept(space: &[u8]) -> u64 {
-    let mut n: u64 = 0;
-    let mut i = 0;
-    while i < space.len() {
-        if space[i] == MARK {
-            n = std::num::wrapping_add_u64(n, 1);
-        }
-        i += 1;
-    }
-    n
+    space.iter().filter(|b| **b == MARK).count() as u64
 }
 
 // Reads the text into the space, and tells what comes of it.
 fn told(rt: &impl Print, text: &[u8], space: &mut [u8]) -> io::Result<()> {
     let answer = reading::read(text, space);
     match answer {
-        Reading::Made(n) => say::sheet(rt, n, space)?,
-        _ => say::stop(rt, reading::number_of(answer), reading::place_in(answer))?,
+        Ok(n) => say::sheet(rt, n, space)?,
+        Err(_) => say::stop(rt, reading::number_of(answer), reading::place_in(answer))?,
     }
     say::kept(rt, kept(space))
 }

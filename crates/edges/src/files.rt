@@ -20,10 +20,10 @@ const IDENTIFIER: usize = 35;
 const TABLE: usize = 64;
 
 // A sheet of one bulk and two messages, from which the others are made.
-const MODEL: usize = 235;
+pub(crate) const MODEL: usize = 235;
 
 // Room for the largest sheet, for the register that it needs and for its report.
-const LARGE: usize = 1215196;
+pub(crate) const LARGE: usize = 1215196;
 
 // So many zeros. The contract spares callers the counting.
 pub(crate) fn large() -> [u8; LARGE]
@@ -68,10 +68,7 @@ pub(crate) struct Field {
 fn made(place: usize, width: usize) -> Field
     ensures { result.place ≡ place }
 {
-    Field {
-        place: place,
-        width: width,
-    }
+    Field { place, width }
 }
 
 // A field of the header or of the first message, by its letter.
@@ -135,10 +132,8 @@ fn put_copy(sheet: &mut [u8], at: usize, copied: &[u8], inner: usize, i: u32) {
 // So many copies, one behind the other.
 pub(crate) fn put_copies(sheet: &mut [u8], to: usize, copied: &[u8], inner: usize, n: u32) {
     let mut at = to;
-    let mut i = 0;
-    while i < n {
+    for i in 0..n {
         put_copy(sheet, at, copied, inner, i);
         at = decimals::place_after(at, copied.len(), sheet.len());
-        i += 1;
     }
 }

@@ -1,10 +1,10 @@
 // The index of the register: built, changed, and lent to the judge.
-use crate::{files, say, words};
-use judging::{Answer, Building};
+use crate::{Desk, files, say, words};
+use refusing::Refusal;
 use rules::Terms;
 use std::io;
 
-const MOST_INDEX: usize = 64;
+pub(crate) const MOST_INDEX: usize = 64;
 
 const SLOT: usize = 4;
 
@@ -20,44 +20,32 @@ pub(crate) fn empty() -> [u8; MOST_INDEX] {
 
 // How many bytes of the index are as they were.
 fn kept(before: &[u8], index: &[u8]) -> u64 {
-    let mut n: u64 = 0;
-    let mut i = 0;
-    while i < index.len() {
-        if index[i] == wire::u8_at(before, i) {
-            n = std::num::wrapping_add_u64(n, 1);
-        }
-        i += 1;
-    }
-    n
+    index
+        .iter()
+        .zip(before)
+        .filter(|(b, was)| **b == **was)
+        .count() as u64
 }
 
 // Builds the index of a register in marked bytes.
-fn built(register: &[u8], index: &mut [u8]) -> Building {
+// A struct of both was tried, and the proof didn't close: the borrow checker covers no `&` of one field while another is lent.
+fn built(register: &[u8], index: &mut [u8]) -> Result<(), Refusal> {
     writing::put_text(index, 0, &empty());
     judging::build_index(register, index)
 }
 
 // The index that was built, or why none was and how many bytes are as they were.
 fn tell_built(rt: &impl Print, register: &[u8], index: &mut [u8]) -> io::Result<()> {
-    let building = built(register, index);
-    match building {
-        Building::Built => {
+    match built(register, index) {
+        Ok(()) => {
             say::slots(rt, index)?;
             say::text(rt, b"\n")
         }
-        Building::Unbuilt(_) => {
-            say::refused(rt, judging::number_built(building))?;
+        Err(refusal) => {
+            say::refused(rt, refusing::number_of(refusal))?;
             say::kept(rt, kept(&empty(), index))
         }
     }
-}
-
-// The same in so many bytes of the index, where it has them.
-fn build(rt: &impl Print, register: &[u8], index: &mut [u8], room: usize) -> io::Result<()> {
-    if room <= index.len() {
-        tell_built(rt, register, &mut index[..room])?;
-    }
-    Ok(())
 }
 
 fn copy(index: &[u8]) -> [u8; MOST_INDEX] {
@@ -71,7 +59,7 @@ fn tell_left(rt: &impl Print, register: &[u8], index: &mut [u8]) -> io::Result<(
     say::text(rt, b"; ")?;
     say::slots(rt, index)?;
     let left = copy(index);
-    built(register, index);
+    let _ = built(register, index);
     say::as_built(rt, kept(&left, index))
 }
 
@@ -91,75 +79,74 @@ fn judge(rt: &impl Print, sheet: &[u8], register: &mut [u8], index: &mut [u8]) -
         &mut report,
         index,
     );
-    let answer = told.answer;
-    match answer {
-        Answer::Refused(_) => {
-            say::refused(rt, judging::number_of(answer))?;
-            say::read(rt, told.slots)?;
+    match told {
+        Err(refusal) => {
+            say::refused(rt, refusing::number_of(refusal))?;
+            say::read(rt, 0)?;
             say::kept(rt, kept(&before, index))
         }
-        Answer::Judged(length) => {
-            say::outcome(rt, register, wire::text_at(&report, 0, length))?;
-            say::read(rt, told.slots)?;
+        Ok(judged) => {
+            say::outcome(rt, register, wire::text_at(&report, 0, judged.length))?;
+            say::read(rt, judged.slots)?;
             tell_left(rt, register, index)
         }
     }
 }
 
-// The same with so many bytes of the register and of the index, where they have them.
-fn judge_within(
-    rt: &impl Print,
-    sheet: &[u8],
-    register: &mut [u8],
-    index: &mut [u8],
-    register_room: usize,
-    room: usize,
-) -> io::Result<()> {
-    if register_room <= register.len() {
+impl Desk {
+    // Builds the index of so many bytes of the register in so many of the index, where the index has them.
+    fn build(&mut self, rt: &impl Print, register_room: usize, room: usize) -> io::Result<()> {
+        let index = &mut self.index[..];
         if room <= index.len() {
+            tell_built(
+                rt,
+                wire::text_at(&self.register, 0, register_room),
+                &mut index[..room],
+            )?;
+        }
+        Ok(())
+    }
+
+    // Judges by so many bytes of the register and of the index, where they have them.
+    fn judge_within(
+        &mut self,
+        rt: &impl Print,
+        register_room: usize,
+        room: usize,
+    ) -> io::Result<()> {
+        let register = &mut self.register[..];
+        let index = &mut self.index[..];
+        if register_room <= register.len() && room <= index.len() {
             judge(
                 rt,
-                sheet,
+                files::whole(&self.sheet),
                 &mut register[..register_room],
                 &mut index[..room],
             )?;
         }
+        Ok(())
     }
-    Ok(())
-}
 
-// A line that builds or changes the index, or has a file judged by it.
-pub(crate) fn step(
-    rt: &impl Print,
-    line: &[u8],
-    sheet: &[u8],
-    register: &mut [u8],
-    index: &mut [u8],
-) -> io::Result<()> {
-    let first = words::count(line, 1) as usize;
-    match wire::u8_at(line, 0) {
-        b'i' => {
-            say::title(rt, words::rest(line, 3))?;
-            build(
-                rt,
-                wire::text_at(register, 0, first),
-                index,
-                words::count(line, 2) as usize,
-            )?;
+    // A line that builds or changes the index, or has a file judged by it.
+    pub(crate) fn step_indexed(&mut self, rt: &impl Print, line: &[u8]) -> io::Result<()> {
+        let first = words::count(line, 1) as usize;
+        match wire::u8_at(line, 0) {
+            b'i' => {
+                say::title(rt, words::rest(line, 3))?;
+                self.build(rt, first, words::count(line, 2) as usize)?;
+            }
+            b's' => {
+                say::title(rt, words::rest(line, 3))?;
+                self.judge_within(rt, first, words::count(line, 2) as usize)?;
+            }
+            b'g' => writing::put_number(
+                &mut self.index,
+                SLOT * first,
+                SLOT,
+                words::number(line, 2),
+            ),
+            _ => {}
         }
-        b's' => {
-            say::title(rt, words::rest(line, 3))?;
-            judge_within(
-                rt,
-                files::whole(sheet),
-                register,
-                index,
-                first,
-                words::count(line, 2) as usize,
-            )?;
-        }
-        b'g' => writing::put_number(index, SLOT * first, SLOT, words::number(line, 2)),
-        _ => {}
+        Ok(())
     }
-    Ok(())
 }

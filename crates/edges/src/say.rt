@@ -33,7 +33,7 @@ pub(crate) fn title(rt: &impl Print, words: &[u8]) -> io::Result<()> {
     text(rt, b": ")
 }
 
-// A date is told by its own line.
+// A date is told by its own line. What is said by a flag, here and below, is one of two: a closure would be longer.
 pub(crate) fn date(rt: &impl Print, line: &[u8], is: bool) -> io::Result<()> {
     text(rt, line)?;
     if is {
@@ -81,10 +81,8 @@ fn bits(rt: &impl Print, faults: u16) -> io::Result<()> {
         return text(rt, b", no bits");
     }
     text(rt, b", bits")?;
-    let mut k: u16 = 0;
-    while k < 16 {
+    for k in 0..16 {
         bit(rt, faults, k)?;
-        k += 1;
     }
     Ok(())
 }
@@ -98,15 +96,13 @@ fn line(rt: &impl Print, outcomes: &[u8], line: &[u8]) -> io::Result<()> {
 // The message lines of a bulk, which follow their count.
 fn messages(rt: &impl Print, section: &[u8]) -> io::Result<()> {
     let count = wire::u32_at(section, 0);
-    let mut i: u32 = 0;
-    while i < count {
+    for i in 0..count {
         text(rt, b"; message ")?;
         line(
             rt,
             b"accepted rejected fell",
             report::message_line_at(section, i as usize),
         )?;
-        i += 1;
     }
     Ok(())
 }
@@ -152,16 +148,14 @@ pub(crate) fn slots(rt: &impl Print, index: &[u8]) -> io::Result<()> {
         return text(rt, b"no slots");
     }
     text(rt, b"slots")?;
-    let mut i = 0;
-    while i < index.len() / SLOT {
+    for slot in index.chunks_exact(SLOT) {
         text(rt, b" ")?;
-        number(rt, wire::u32_at(index, SLOT * i) as u64)?;
-        i += 1;
+        number(rt, wire::u32_at(slot, 0) as u64)?;
     }
     Ok(())
 }
 
-// How many slots the searches read.
+// How many slots the searches read. It, `as_built` and `kept` each have their own words: no plainer as one.
 pub(crate) fn read(rt: &impl Print, slots: u64) -> io::Result<()> {
     text(rt, b"; slots read ")?;
     number(rt, slots)

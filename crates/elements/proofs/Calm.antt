@@ -2,27 +2,26 @@
 use mathlib.Core.Path.{◌≡◌, refl, sym, ap, ◌∙◌}
 use mathlib.Core.Bool.{Bool, true, false, cond, not, ◌&&◌, ◌||◌, false≢true}
 use mathlib.Core.List.{List, [], ◌∷◌, ◌++◌, append_assoc}
-use Prim.Native.Nat.{ℕ, zero, suc, ◌+◌, ◌≤◌, ◌<◌}
+use Prim.Native.Nat.{ℕ, zero, suc, ◌+◌, ◌<◌}
 use native.Mathlib.Omega.{arith}
 use lib.Dec.{eqb, ltb}
 use lib.ListN.{length}
 use borrow.Author.Tests.{eqb-true, lt-leb}
 use Rattle.wire.specs.Field.{same}
 use Rattle.letters.specs.Places.{byte_at}
-use Rattle.letters.specs.declared.Reach.{Reach}
-use Rattle.letters.specs.declared.Reach.TheVariants.{To, Broken}
 use Rattle.tags.specs.Names.{name_start, name_end, name_at}
 use Rattle.tags.specs.Tags.{start_at, end_at}
+use Rattle.std.specs.Prelude.{Result, Ok, Err}
 use Rattle.tags.specs.declared.Tag.{Tag}
-use Rattle.tags.specs.declared.Tag.TheVariants.{Open, Empty, Faulty}
+use Rattle.tags.specs.declared.Tag.TheVariants.{Open, Empty}
 use Rattle.prose.specs.Prose.{text_at, said_at}
 use Rattle.paths.specs.Roles as roles
-use Rattle.paths.specs.Table.{Row, rows, about, among, child_role}
+use Rattle.paths.specs.Table.{Row, rows, among, child_role}
 use Rattle.fields.specs.Fields.{fits}
 use Rattle.elements.specs.Forest.{Forest, none, tree, beside}
-use Rattle.elements.specs.Grammar.{Parsed, read, broken, deep, on_read, on_reached, provided, in_euros, filled_field, field_at, whole, items_by, content_by, group_at, element_at, content_at}
+use Rattle.elements.specs.Grammar.{Parsed, read, broken, deep, on_read, on_reached, provided, in_euros, filled_field, field_at, whole, items_by, content_by, group_at, element_at}
 use Rattle.elements.specs.Questions.{messages_in}
-use Rattle.elements.proofs.Forward.{Went, went, Reached, reached, held}
+use Rattle.elements.proofs.Forward.{went, reached, held}
 
 -- ---- the table
 
@@ -126,33 +125,33 @@ pub record Held (role at : ℕ) (f : Forest) : Type 0 where
   pub hush : messages_in inner ≡ []
 
 module _ (s : List ℕ) (role at n : ℕ) (f : Forest) where
-  group_held : (element : ℕ → ℕ → Parsed) → calm role ≡ true → Quiet element → (tag : Tag) → group_at element role s at tag ≡ read n f → Held role at f
+  group_held : (element : ℕ → ℕ → Parsed) → calm role ≡ true → Quiet element → (tag : Result Tag ℕ) → group_at element role s at tag ≡ read n f → Held role at f
   unfolding messages_in
-  group_held element c q (Open end inside) told =
+  group_held element c q (Ok (Open end inside)) told =
       let a = went (content_by element role s inside) (λ e f. on_reached (end_at s at e) (λ n. read n (whole role at f))) n f told in
       let d = reached (end_at s at a.mid) (λ n. read n (whole role at a.part)) n f a.then in
       let same : whole role at a.part ≡ f = cc in
       record { inner = a.part; is = sym same; hush = content_quiet element role s c q inside a.mid a.part a.first }
-  group_held element c q (Empty end next) told = let same : whole role at none ≡ f = cc in record { inner = none; is = sym same; hush = refl }
-  group_held element c q (Faulty p) told = absurd (let z : ◌≡◌ {A = ℕ} 0 1 = cc in omega arith)
+  group_held element c q (Ok (Empty end next)) told = let same : whole role at none ≡ f = cc in record { inner = none; is = sym same; hush = refl }
+  group_held element c q (Err p) told = absurd (let z : ◌≡◌ {A = ℕ} 0 1 = cc in omega arith)
 
   leaf_quiet : (place : ℕ) → roles.is_message role ≡ false → tree role place none none ≡ f → messages_in f ≡ []
   unfolding messages_in
   leaf_quiet place m e = rw (← e, m)
 
-  field_quiet : roles.is_message role ≡ false → (tag : Tag) → field_at role s at tag ≡ read n f → messages_in f ≡ []
+  field_quiet : roles.is_message role ≡ false → (tag : Result Tag ℕ) → field_at role s at tag ≡ read n f → messages_in f ≡ []
   unfolding field_at filled_field
-  field_quiet m (Open end inside) told =
+  field_quiet m (Ok (Open end inside)) told =
       let a = held (in_euros role s (name_end s (at + 1)) end) end (λ u. on_reached (text_at s inside) (λ e. provided (fits role (said_at s inside)) e (λ u. on_reached (end_at s at e) (λ n. read n (tree role inside none none))))) n f told in
       let b = reached (text_at s inside) (λ e. provided (fits role (said_at s inside)) e (λ u. on_reached (end_at s at e) (λ n. read n (tree role inside none none)))) n f a in
       let c = held (fits role (said_at s inside)) b.mid (λ u. on_reached (end_at s at b.mid) (λ n. read n (tree role inside none none))) n f b.then in
       let d = reached (end_at s at b.mid) (λ n. read n (tree role inside none none)) n f c in
       leaf_quiet inside m (let same : tree role inside none none ≡ f = cc in same)
-  field_quiet m (Empty end next) told =
+  field_quiet m (Ok (Empty end next)) told =
       let a = held (in_euros role s (name_end s (at + 1)) end) end (λ u. provided (fits role []) end (λ u. read next (tree role at none none))) n f told in
       let b = held (fits role []) end (λ u. read next (tree role at none none)) n f a in
       leaf_quiet at m (let same : tree role at none none ≡ f = cc in same)
-  field_quiet m (Faulty p) told = absurd (let z : ◌≡◌ {A = ℕ} 0 1 = cc in omega arith)
+  field_quiet m (Err p) told = absurd (let z : ◌≡◌ {A = ℕ} 0 1 = cc in omega arith)
 
   whole_quiet : roles.is_message role ≡ false → Held role at f → messages_in f ≡ []
   unfolding messages_in

@@ -1,6 +1,5 @@
 -- The definitions tried on small texts. Assumes nothing.
 use mathlib.Core.Path.{◌≡◌, refl}
-use mathlib.Core.List.{List}
 use Prim.Native.Nat.{ℕ}
 use Rattle.wire.specs.Field.{text, same}
 use Rattle.letters.specs.Places.{run, matches, walk_by, walk}

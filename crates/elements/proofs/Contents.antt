@@ -1,51 +1,28 @@
 -- The loop over a content: what was read so far, with what is still to be read, comes to the whole. Assumes nothing.
 use mathlib.Core.Path.{◌≡◌, refl, sym, ap, ◌∙◌}
 use mathlib.Core.Bool.{Bool, true, false, cond}
-use mathlib.Core.List.{List, [], ◌∷◌}
-use Prim.Native.Nat.{ℕ, zero, suc, ◌+◌, ◌≤◌, ◌<◌, min}
+use mathlib.Core.List.{List}
+use Prim.Native.Nat.{ℕ, zero, suc, ◌+◌, ◌<◌, min}
 use native.Mathlib.Omega.{arith}
-use lib.Dec.{eqb, ltb}
+use lib.Dec.{eqb}
 use lib.ListN.{length, get_or, set, replicate, length-set}
 use lib.Seq.{get_or-set_same, get_or-set_other}
 use borrow.Author.Tests.{eq-eqb, ne_eqb, eqb-true, eqb-false}
 use Rattle.letters.specs.Places.{byte_at}
-use Rattle.letters.specs.declared.Reach.TheVariants.{To, Broken}
+use Rattle.std.specs.Prelude.{Ok, Err}
 use Rattle.tags.specs.Names.{name_at}
 use Rattle.prose.specs.Prose.{text_at}
 use Rattle.paths.specs.Roles as roles
 use Rattle.paths.specs.Table.{child_role, lacks}
 use Rattle.paths.proofs.Rows.{lacks_alike}
-use Rattle.elements.specs.declared.Step.{Step}
-use Rattle.elements.specs.declared.Step.TheVariants.{Done, Form, Deep}
+use Rattle.elements.specs.declared.Stop.{Stop}
+use Rattle.elements.specs.declared.Stop.TheVariants.{Form, Deep}
 use Rattle.elements.specs.Forest.{Forest, none, tree, beside, count_of}
 use Rattle.elements.specs.Grammar.{Parsed, read, broken, deep, on_read, content_by}
-use Rattle.elements.specs.Notes.{noting, noted, step_of, Noted, bumped}
-use Rattle.elements.proofs.Forests.{zeros, nothing_yet, further, beside_none, count_beside, noted_beside, set_past}
+use Rattle.elements.specs.Notes.{noted, bumped}
+use Rattle.elements.proofs.Forests.{zeros, nothing_yet, further, beside_none, count_beside, noted_beside}
+use Rattle.elements.proofs.Steps.{stopped}
 use Rattle.elements.proofs.Forward.{Onward, Shape, stepped, one, content_broken, content_ends, content_child}
-
--- ---- what a step tells of what was read
-
-pub record Read (p : Parsed) (n : ℕ) : Type 0 where
-  pub forest : Forest
-  pub was : p ≡ read n forest
-
-pub done_read : (p : Parsed) (n : ℕ) → step_of p ≡ Done n → Read p n
-done_read (read m f) n e = let same : m ≡ n = cc in record { forest = f; was = rw same }
-done_read (broken q) n e = absurd (let z : ◌≡◌ {A = ℕ} 0 1 = cc in omega arith)
-done_read (deep q) n e = absurd (let z : ◌≡◌ {A = ℕ} 0 1 = cc in omega arith)
-
-pub form_broken : (p : Parsed) (q : ℕ) → step_of p ≡ Form q → p ≡ broken q
-form_broken (read m f) q e = absurd (let z : ◌≡◌ {A = ℕ} 0 1 = cc in omega arith)
-form_broken (broken r) q e = let same : r ≡ q = cc in rw same
-form_broken (deep r) q e = absurd (let z : ◌≡◌ {A = ℕ} 0 1 = cc in omega arith)
-
-pub deep_deep : (p : Parsed) (q : ℕ) → step_of p ≡ Deep q → p ≡ deep q
-deep_deep (read m f) q e = absurd (let z : ◌≡◌ {A = ℕ} 0 1 = cc in omega arith)
-deep_deep (broken r) q e = absurd (let z : ◌≡◌ {A = ℕ} 0 1 = cc in omega arith)
-deep_deep (deep r) q e = let same : r ≡ q = cc in rw same
-
-pub read_noted : (p : Parsed) (n : ℕ) (f : Forest) (before after : List ℕ) → p ≡ read n f → Noted p before after → after ≡ noted f before
-read_noted p n f before after e h = rw e at h
 
 -- ---- counts
 
@@ -106,17 +83,17 @@ module _ (element : ℕ → ℕ → Parsed) (s : List ℕ) (role at : ℕ) (firs
   reading_starts = record { sofar = none; comes = nothing_yet (content_by element role s at); notes_are = refl; size = refl; counted = zeros_counted }
 
   module _ (onward : Onward element (length s)) (i : ℕ) (notes counts : List ℕ) (reading : Reading element s role at i first notes counts) where
-    pub reading_broken : (p : ℕ) → text_at s i ≡ Broken p → content_by element role s at ≡ broken p
+    pub reading_broken : (p : ℕ) → text_at s i ≡ Err p → content_by element role s at ≡ broken p
     reading_broken p e = reading.comes ∙ (rw (content_broken element role s onward i p e))
 
-    pub reading_ends : (j : ℕ) → text_at s i ≡ To j → byte_at s (j + 1) ≡ 47 → content_by element role s at ≡ read j reading.sofar
+    pub reading_ends : (j : ℕ) → text_at s i ≡ Ok j → byte_at s (j + 1) ≡ 47 → content_by element role s at ≡ read j reading.sofar
     reading_ends j e h = reading.comes ∙ (rw (content_ends element role s onward i j e h, beside_none reading.sofar))
 
-    pub reading_stops : (j : ℕ) (r : Parsed) → text_at s i ≡ To j → (byte_at s (j + 1) ≡ 47 → ⊥) → element (child_role role (name_at s (j + 1))) j ≡ r
+    pub reading_stops : (j : ℕ) (r : Parsed) → text_at s i ≡ Ok j → (byte_at s (j + 1) ≡ 47 → ⊥) → element (child_role role (name_at s (j + 1))) j ≡ r
         → content_by element role s at ≡ on_read (on_read r (λ next f. on_read (content_by element role s next) (λ e g. read e (beside f g)))) (λ e g. read e (beside reading.sofar g))
     reading_stops j r e h k = reading.comes ∙ (rw (content_child element role s onward i j r e h k))
 
-    pub reading_on : (j next : ℕ) (f : Forest) (after : List ℕ) → text_at s i ≡ To j → (byte_at s (j + 1) ≡ 47 → ⊥)
+    pub reading_on : (j next : ℕ) (f : Forest) (after : List ℕ) → text_at s i ≡ Ok j → (byte_at s (j + 1) ≡ 47 → ⊥)
         → element (child_role role (name_at s (j + 1))) j ≡ read next f → Shape (child_role role (name_at s (j + 1))) f → after ≡ noted f notes
         → Reading element s role at next first after (bumped (child_role role (name_at s (j + 1))) counts)
     reading_on j next f after e h k shape n =
@@ -129,12 +106,10 @@ module _ (element : ℕ → ℕ → Parsed) (s : List ℕ) (role at : ℕ) (firs
         }
 
     -- by the role that was found for the child
-    module _ (j child : ℕ) (text : text_at s i ≡ To j) (more : byte_at s (j + 1) ≡ 47 → ⊥) (is : child ≡ child_role role (name_at s (j + 1))) where
-      pub child_broken : (p : ℕ) → element child j ≡ broken p → content_by element role s at ≡ broken p
-      child_broken p e = reading_stops j (broken p) text more (rw (← is) e)
-
-      pub child_deep : (p : ℕ) → element child j ≡ deep p → content_by element role s at ≡ deep p
-      child_deep p e = reading_stops j (deep p) text more (rw (← is) e)
+    module _ (j child : ℕ) (text : text_at s i ≡ Ok j) (more : byte_at s (j + 1) ≡ 47 → ⊥) (is : child ≡ child_role role (name_at s (j + 1))) where
+      pub child_stopped : (e : Stop) → element child j ≡ stopped e → content_by element role s at ≡ stopped e
+      child_stopped (Form p) e = reading_stops j (broken p) text more (rw (← is) e)
+      child_stopped (Deep p) e = reading_stops j (deep p) text more (rw (← is) e)
 
       pub child_read : (next : ℕ) (f : Forest) (after : List ℕ) → element child j ≡ read next f → Shape child f → after ≡ noted f notes
           → Reading element s role at next first after (bumped child counts)

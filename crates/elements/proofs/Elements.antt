@@ -1,27 +1,28 @@
 -- Each way that the reading of an element goes. Assumes nothing.
-use mathlib.Core.Path.{◌≡◌, refl, sym, ap, ◌∙◌}
+use mathlib.Core.Path.{◌≡◌, refl, sym, ◌∙◌}
 use mathlib.Core.Bool.{Bool, true, false, cond}
-use mathlib.Core.List.{List, []}
+use mathlib.Core.List.{List}
 use Prim.Native.Nat.{ℕ, zero, suc, ◌+◌, ◌-◌, ◌≤◌, ◌<◌}
 use native.Mathlib.Omega.{arith}
-use lib.Dec.{eqb, leb, ltb}
+use lib.Dec.{eqb, ltb}
 use lib.ListN.{length}
-use borrow.Author.Tests.{eqb-true, eqb-false, le-leb, lt-leb, le-ltb}
-use Rattle.letters.specs.Places.{byte_at}
-use Rattle.letters.specs.declared.Reach.{Reach}
-use Rattle.letters.specs.declared.Reach.TheVariants.{To, Broken}
+use borrow.Author.Tests.{eqb-true, le-leb, lt-leb, le-ltb}
+use Rattle.letters.specs.Places.{byte_at, Reach}
+use Rattle.std.specs.Prelude.{Ok, Err}
 use Rattle.tags.specs.Names.{name_start, name_at}
 use Rattle.tags.specs.Tags.{start_at, end_at}
-use Rattle.tags.specs.declared.Tag.{Tag}
-use Rattle.tags.specs.declared.Tag.TheVariants.{Open, Empty, Faulty}
+use Rattle.tags.specs.declared.Tag.TheVariants.{Open, Empty}
 use Rattle.prose.specs.Prose.{text_at}
 use Rattle.paths.specs.Roles as roles
 use Rattle.paths.specs.Table.{child_role, lacks}
 use Rattle.paths.proofs.Rows.{no_others}
+use Rattle.elements.specs.declared.Stop.{Stop}
+use Rattle.elements.specs.declared.Stop.TheVariants.{Form, Deep}
 use Rattle.elements.specs.Forest.{Forest, none, tree, beside, count_of}
 use Rattle.elements.specs.Grammar.{Parsed, read, broken, deep, on_read, on_reached, field_at, whole, items_by, content_by, group_at, element_at, content_at}
 use Rattle.elements.specs.Notes.{noting, noted, step_of, Noted, NotedIn, shallow, closed_by}
-use Rattle.elements.proofs.Forward.{Went, went, Reached, reached, Shape, stepped, one, element_told}
+use Rattle.elements.proofs.Steps.{stopped}
+use Rattle.elements.proofs.Forward.{went, reached, Shape, stepped, one, element_told}
 
 -- ---- where no level is left
 
@@ -125,15 +126,15 @@ module _ (role at : ℕ) (f : Forest) (notes : List ℕ) where
 
 module _ (depth : ℕ) (s : List ℕ) (role at : ℕ) where
   closed_step : (r : Reach) (f : Forest) → closed_by r ≡ step_of (on_reached r (λ n. read n (whole role at f)))
-  closed_step (To n) f = refl
-  closed_step (Broken p) f = refl
+  closed_step (Ok n) f = refl
+  closed_step (Err p) f = refl
 
   closed_noted : (r : Reach) (f : Forest) (before after : List ℕ) → (role ≡ roles.other → f ≡ none) → after ≡ noting role at (lacks role (count_of f)) (noted f before)
       → Noted (on_reached r (λ n. read n (whole role at f))) before after
-  closed_noted (To n) f before after over e = e ∙ whole_noted role at f before over
-  closed_noted (Broken p) f before after over e = tt
+  closed_noted (Ok n) f before after over e = e ∙ whole_noted role at f before over
+  closed_noted (Err p) f before after over e = tt
 
-  module _ (end inside : ℕ) (tag : start_at s at ≡ Open end inside) where
+  module _ (end inside : ℕ) (tag : start_at s at ≡ Ok (Open end inside)) where
     group_open : (r : Parsed) → content_at depth s role inside ≡ r → group_at (element_at depth s) role s at (start_at s at) ≡ on_read r (λ e f. on_reached (end_at s at e) (λ n. read n (whole role at f)))
     group_open r e = rw (tag, e)
 
@@ -145,16 +146,14 @@ module _ (depth : ℕ) (s : List ℕ) (role at : ℕ) where
     group_closed_noted e f before after c n =
         rw (group_open (read e f) c) (closed_noted (end_at s at e) f before after (content_over s depth role inside e f c) (rw c at n))
 
-    pub group_broken : (p : ℕ) → content_at depth s role inside ≡ broken p → group_at (element_at depth s) role s at (start_at s at) ≡ broken p
-    group_broken p c = group_open (broken p) c
+    pub group_stopped : (e : Stop) → content_at depth s role inside ≡ stopped e → group_at (element_at depth s) role s at (start_at s at) ≡ stopped e
+    group_stopped (Form p) c = group_open (broken p) c
+    group_stopped (Deep p) c = group_open (deep p) c
 
-    pub group_deep : (p : ℕ) → content_at depth s role inside ≡ deep p → group_at (element_at depth s) role s at (start_at s at) ≡ deep p
-    group_deep p c = group_open (deep p) c
-
-  pub group_empty : (end next : ℕ) → start_at s at ≡ Empty end next → group_at (element_at depth s) role s at (start_at s at) ≡ read next (whole role at none)
+  pub group_empty : (end next : ℕ) → start_at s at ≡ Ok (Empty end next) → group_at (element_at depth s) role s at (start_at s at) ≡ read next (whole role at none)
   group_empty end next tag = rw tag
 
-  pub group_faulty : (p : ℕ) → start_at s at ≡ Faulty p → group_at (element_at depth s) role s at (start_at s at) ≡ broken p
+  pub group_faulty : (p : ℕ) → start_at s at ≡ Err p → group_at (element_at depth s) role s at (start_at s at) ≡ broken p
   group_faulty p tag = rw tag
 
 pub bare_noted : (role at : ℕ) (notes : List ℕ) → noting role at (lacks role (count_of none)) notes ≡ noted (whole role at none) notes

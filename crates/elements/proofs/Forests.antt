@@ -1,11 +1,11 @@
 -- The laws of forests: one beside another, what is counted in them, what is noted of them. Assumes nothing.
 use mathlib.Core.Path.{◌≡◌, refl, sym, ap, ◌∙◌}
 use mathlib.Core.Bool.{Bool, true, false, cond}
-use mathlib.Core.List.{List, [], ◌∷◌, ◌++◌}
-use Prim.Native.Nat.{ℕ, zero, suc, ◌+◌, ◌≤◌, ◌<◌}
+use mathlib.Core.List.{List, [], ◌∷◌}
+use Prim.Native.Nat.{ℕ, zero, suc, ◌+◌, ◌≤◌}
 use native.Mathlib.Omega.{arith}
 use lib.Dec.{eqb, ltb}
-use lib.ListN.{length, drop, get_or, set, replicate, length-set}
+use lib.ListN.{length, get_or, set, replicate, length-set}
 use Rattle.paths.specs.Roles as roles
 use Rattle.paths.specs.Table.{lacks}
 use Rattle.elements.specs.Forest.{Forest, none, tree, beside, count_of}
@@ -93,21 +93,3 @@ unfolding noted
 noted_length none notes = refl
 noted_length (tree role place inner rest) notes =
     noted_length rest (noting role place (lacks role (count_of inner)) (noted inner notes)) ∙ noting_length role place (lacks role (count_of inner)) (noted inner notes) ∙ noted_length inner notes
-
--- ---- notes that are forgotten one by one
-
-pub clear_step : (s : List ℕ) (i : ℕ) → i < length s → set (replicate i 0 ++ drop i s) i 0 ≡ replicate (suc i) 0 ++ drop (suc i) s
-clear_step [] i h = absurd (omega arith)
-clear_step (x ∷ xs) zero h = refl
-clear_step (x ∷ xs) (suc i) h = ap (λ (r : List ℕ). 0 ∷ r) (clear_step xs i (omega arith))
-
-pub clear_ends : (s : List ℕ) (i : ℕ) → i ≤ length s → length s ≤ i → replicate i 0 ++ drop i s ≡ replicate (length s) 0
-clear_ends [] zero h k = refl
-clear_ends [] (suc i) h k = absurd (omega arith)
-clear_ends (x ∷ xs) zero h k = absurd (omega arith)
-clear_ends (x ∷ xs) (suc i) h k = ap (λ (r : List ℕ). 0 ∷ r) (clear_ends xs i (omega arith) (omega arith))
-
-pub clear_length : (s : List ℕ) (i : ℕ) → i ≤ length s → length (replicate {A = ℕ} i 0 ++ drop i s) ≡ length s
-clear_length s zero h = refl
-clear_length [] (suc i) h = absurd (omega arith)
-clear_length (x ∷ xs) (suc i) h = ap suc (clear_length xs i (omega arith))

@@ -1,6 +1,6 @@
 -- Reading goes forward, so that the bound on the number of children never shows: a content is its text, then its first child and the
 -- content after it. Assumes nothing.
-use mathlib.Core.Path.{◌≡◌, refl, sym, ap, ◌∙◌}
+use mathlib.Core.Path.{◌≡◌, refl, ap, ◌∙◌}
 use mathlib.Core.Bool.{Bool, true, false, cond}
 use mathlib.Core.List.{List, []}
 use Prim.Native.Nat.{ℕ, zero, suc, ◌+◌, ◌≤◌, ◌<◌}
@@ -8,13 +8,12 @@ use native.Mathlib.Omega.{arith}
 use lib.Dec.{eqb, ltb}
 use lib.ListN.{length}
 use borrow.Author.Tests.{ne_eqb, eqb-true, eqb-false, leb-true}
-use Rattle.letters.specs.Places.{byte_at}
-use Rattle.letters.specs.declared.Reach.{Reach}
-use Rattle.letters.specs.declared.Reach.TheVariants.{To, Broken}
+use Rattle.letters.specs.Places.{byte_at, Reach}
+use Rattle.std.specs.Prelude.{Ok, Err, Result}
 use Rattle.tags.specs.Names.{name_start, name_end, name_at}
 use Rattle.tags.specs.Tags.{start_at, end_at}
 use Rattle.tags.specs.declared.Tag.{Tag}
-use Rattle.tags.specs.declared.Tag.TheVariants.{Open, Empty, Faulty}
+use Rattle.tags.specs.declared.Tag.TheVariants.{Open, Empty}
 use Rattle.tags.proofs.Tags.{open_forward, empty_forward, end_forward}
 use Rattle.prose.specs.Prose.{text_at, said_at}
 use Rattle.prose.proofs.Turns.{text_forward}
@@ -22,7 +21,7 @@ use Rattle.paths.specs.Roles as roles
 use Rattle.paths.specs.Table.{child_role}
 use Rattle.fields.specs.Fields.{fits}
 use Rattle.elements.specs.Forest.{Forest, none, tree, beside}
-use Rattle.elements.specs.Grammar.{Parsed, read, broken, deep, on_read, on_reached, provided, in_euros, filled_field, field_at, whole, items_by, content_by, group_at, element_at, content_at}
+use Rattle.elements.specs.Grammar.{Parsed, read, broken, deep, on_read, on_reached, provided, in_euros, filled_field, field_at, whole, items_by, content_by, group_at, element_at}
 
 -- ---- what was read in two steps
 
@@ -39,12 +38,12 @@ went (deep p) k n f e = absurd (let z : ◌≡◌ {A = ℕ} 0 1 = cc in omega ar
 
 pub record Reached (r : Reach) (k : ℕ → Parsed) (n : ℕ) (f : Forest) : Type 0 where
   pub mid : ℕ
-  pub first : r ≡ To mid
+  pub first : r ≡ Ok mid
   pub then : k mid ≡ read n f
 
 pub reached : (r : Reach) (k : ℕ → Parsed) (n : ℕ) (f : Forest) → on_reached r k ≡ read n f → Reached r k n f
-reached (To m) k n f e = record { mid = m; first = refl; then = e }
-reached (Broken p) k n f e = absurd (let z : ◌≡◌ {A = ℕ} 0 1 = cc in omega arith)
+reached (Ok m) k n f e = record { mid = m; first = refl; then = e }
+reached (Err p) k n f e = absurd (let z : ◌≡◌ {A = ℕ} 0 1 = cc in omega arith)
 
 pub held : (t : Bool) (p : ℕ) (k : Unit {0} → Parsed) (n : ℕ) (f : Forest) → provided t p k ≡ read n f → k tt ≡ read n f
 held true p k n f e = e
@@ -104,8 +103,8 @@ module _ (element : ℕ → ℕ → Parsed) (role : ℕ) (s : List ℕ) (onward 
       by_test i low false = by_read i low (element (child_role role (name_at s (i + 1))) i) refl
 
       by_text : (r : Reach) → text_at s at ≡ r → on_reached r (after rest) ≡ on_reached r (after other)
-      by_text (To i) e = by_test i (text_forward s at i e).0 (eqb (byte_at s (i + 1)) 47)
-      by_text (Broken p) e = refl
+      by_text (Ok i) e = by_test i (text_forward s at i e).0 (eqb (byte_at s (i + 1)) 47)
+      by_text (Err p) e = refl
 
   -- any bound that passes what is left does
   items_any : (b c at : ℕ) → length s < at + b → length s < at + c → 0 < b → 0 < c → items_by element role s b at ≡ items_by element role s c at
@@ -122,13 +121,13 @@ module _ (element : ℕ → ℕ → Parsed) (role : ℕ) (s : List ℕ) (onward 
       (λ next low high. items_any (length s) (suc (length s)) next (omega arith) (omega arith) (omega arith) (omega arith))
 
   -- each way that a turn goes
-  pub content_broken : (at p : ℕ) → text_at s at ≡ Broken p → content_by element role s at ≡ broken p
+  pub content_broken : (at p : ℕ) → text_at s at ≡ Err p → content_by element role s at ≡ broken p
   content_broken at p e = content_turn at ∙ (rw e)
 
-  pub content_ends : (at i : ℕ) → text_at s at ≡ To i → byte_at s (i + 1) ≡ 47 → content_by element role s at ≡ read i none
+  pub content_ends : (at i : ℕ) → text_at s at ≡ Ok i → byte_at s (i + 1) ≡ 47 → content_by element role s at ≡ read i none
   content_ends at i e h = content_turn at ∙ (rw (e, h))
 
-  pub content_child : (at i : ℕ) (r : Parsed) → text_at s at ≡ To i → (byte_at s (i + 1) ≡ 47 → ⊥) → element (child_role role (name_at s (i + 1))) i ≡ r
+  pub content_child : (at i : ℕ) (r : Parsed) → text_at s at ≡ Ok i → (byte_at s (i + 1) ≡ 47 → ⊥) → element (child_role role (name_at s (i + 1))) i ≡ r
       → content_by element role s at ≡ on_read r (λ next f. on_read (content_by element role s next) (λ e g. read e (beside f g)))
   content_child at i r e h k = content_turn at ∙ (rw (e, ne_eqb _ _ h, k))
 
@@ -162,9 +161,9 @@ told_as s role at m n f g e t =
     record { onward = rw (← places) t.onward; shape = rw (← forests) t.shape }
 
 module _ (s : List ℕ) (role at n : ℕ) (f : Forest) where
-  field_told : roles.is_field role ≡ true → (tag : Tag) → start_at s at ≡ tag → field_at role s at tag ≡ read n f → Told s role at n f
+  field_told : roles.is_field role ≡ true → (tag : Result Tag ℕ) → start_at s at ≡ tag → field_at role s at tag ≡ read n f → Told s role at n f
   unfolding field_at filled_field
-  field_told is_field (Open end inside) e told =
+  field_told is_field (Ok (Open end inside)) e told =
       let o = open_forward s at end inside e in
       let a = held (in_euros role s (name_end s (at + 1)) end) end _ n f told in
       let b = reached (text_at s inside) _ n f a in
@@ -175,26 +174,26 @@ module _ (s : List ℕ) (role at n : ℕ) (f : Forest) where
         onward = (omega (arith, (text_forward s inside b.mid b.first).0, (end_forward s at b.mid d.mid d.first).0), (end_forward s at b.mid d.mid d.first).1);
         shape = one (λ z. absurd (omega (arith, leb-true roles.bulk_identifier role is_field))) inside none refl;
       })
-  field_told is_field (Empty end next) e told =
+  field_told is_field (Ok (Empty end next)) e told =
       let o = empty_forward s at end next e in
       let a = held (in_euros role s (name_end s (at + 1)) end) end _ n f told in
       let b = held (fits role []) end _ n f a in
       told_as s role at next n (tree role at none none) f b
       (record { onward = (omega arith, o.2); shape = one (λ z. absurd (omega (arith, leb-true roles.bulk_identifier role is_field))) at none refl })
-  field_told is_field (Faulty p) e told = absurd (let z : ◌≡◌ {A = ℕ} 0 1 = cc in omega arith)
+  field_told is_field (Err p) e told = absurd (let z : ◌≡◌ {A = ℕ} 0 1 = cc in omega arith)
 
-  group_told : (element : ℕ → ℕ → Parsed) → Onward element (length s) → (tag : Tag) → start_at s at ≡ tag → group_at element role s at tag ≡ read n f → Told s role at n f
-  group_told element onward (Open end inside) e told =
+  group_told : (element : ℕ → ℕ → Parsed) → Onward element (length s) → (tag : Result Tag ℕ) → start_at s at ≡ tag → group_at element role s at tag ≡ read n f → Told s role at n f
+  group_told element onward (Ok (Open end inside)) e told =
       let o = open_forward s at end inside e in
       let a = went (content_by element role s inside) (λ e f. on_reached (end_at s at e) (λ n. read n (whole role at f))) n f told in
       let c = content_forward element role s onward inside a.mid a.part a.first in
       let d = reached (end_at s at a.mid) (λ n. read n (whole role at a.part)) n f a.then in
       told_as s role at d.mid n (whole role at a.part) f d.then
       (record { onward = (omega (arith, (end_forward s at a.mid d.mid d.first).0), (end_forward s at a.mid d.mid d.first).1); shape = whole_shape role at a.part })
-  group_told element onward (Empty end next) e told =
+  group_told element onward (Ok (Empty end next)) e told =
       let o = empty_forward s at end next e in
       told_as s role at next n (whole role at none) f told (record { onward = (omega arith, o.2); shape = whole_shape role at none })
-  group_told element onward (Faulty p) e told = absurd (let z : ◌≡◌ {A = ℕ} 0 1 = cc in omega arith)
+  group_told element onward (Err p) e told = absurd (let z : ◌≡◌ {A = ℕ} 0 1 = cc in omega arith)
 
 pub element_told : (depth : ℕ) (s : List ℕ) (role at n : ℕ) (f : Forest) → element_at depth s role at ≡ read n f → Told s role at n f
 unfolding element_at

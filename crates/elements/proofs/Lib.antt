@@ -1,6 +1,7 @@
 pub mod Forests
 pub mod Fields
 pub mod Forward
+pub mod Steps
 pub mod Contents
 pub mod Overs
 pub mod Elements

@@ -1,5 +1,5 @@
 -- The needed elements of a text as trees. Assumes nothing.
-use Rattle.std.specs.Prelude.{ℕ, suc, Bool, cond, List, eqb}
+use Rattle.std.specs.Prelude.{ℕ, suc, cond, eqb}
 use Rattle.paths.specs.Roles as roles
 
 -- nothing; or an element, what it holds, and those after it. An element is its role and a place: where its text begins, of a field;

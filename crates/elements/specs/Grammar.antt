@@ -1,15 +1,13 @@
 -- The grammar of elements: what stands at a place and plays a role, within so many others. Assumes nothing.
 --   element := start tag, content, end tag | empty tag
 --   content := text (element text)*
-use Rattle.std.specs.Prelude.{ℕ, zero, suc, ◌+◌, Bool, true, false, cond, not, ◌||◌, List, [], length, eqb, ltb}
-use Rattle.letters.specs.Places.{byte_at}
-use Rattle.letters.specs.declared.Reach.{Reach}
-use Rattle.letters.specs.declared.Reach.TheVariants.{To, Broken}
+use Rattle.std.specs.Prelude.{ℕ, zero, suc, ◌+◌, Bool, true, false, cond, not, ◌||◌, List, [], length, eqb, ltb, Ok, Err, Result}
+use Rattle.letters.specs.Places.{byte_at, Reach}
 use Rattle.tags.specs.Names.{name_start, name_end, name_at}
 use Rattle.tags.specs.Attributes.{euros}
 use Rattle.tags.specs.Tags.{start_at, end_at}
 use Rattle.tags.specs.declared.Tag.{Tag}
-use Rattle.tags.specs.declared.Tag.TheVariants.{Open, Empty, Faulty}
+use Rattle.tags.specs.declared.Tag.TheVariants.{Open, Empty}
 use Rattle.prose.specs.Prose.{text_at, said_at}
 use Rattle.paths.specs.Roles as roles
 use Rattle.paths.specs.Table.{child_role}
@@ -28,8 +26,8 @@ on_read (broken p) k = broken p
 on_read (deep p) k = deep p
 
 abbrev pub on_reached : Reach → (ℕ → Parsed) → Parsed
-on_reached (To n) k = k n
-on_reached (Broken p) k = broken p
+on_reached (Ok n) k = k n
+on_reached (Err p) k = broken p
 
 -- go on where the test holds; else it is broken at the place
 abbrev pub provided : Bool → ℕ → (Unit {0} → Parsed) → Parsed
@@ -51,13 +49,13 @@ filled_field role s at inside =
     read n (tree role inside none none))))
 
 -- a field's element that begins at a place, after its start tag
-unfoldable pub field_at : ℕ → List ℕ → ℕ → Tag → Parsed
-field_at role s at (Open end inside) = provided (in_euros role s (name_end s (at + 1)) end) end (λ u. filled_field role s at inside)
-field_at role s at (Empty end next) =
+unfoldable pub field_at : ℕ → List ℕ → ℕ → Result Tag ℕ → Parsed
+field_at role s at (Ok (Open end inside)) = provided (in_euros role s (name_end s (at + 1)) end) end (λ u. filled_field role s at inside)
+field_at role s at (Ok (Empty end next)) =
     provided (in_euros role s (name_end s (at + 1)) end) end (λ u.
     provided (fits role []) end (λ u.
     read next (tree role at none none)))
-field_at role s at (Faulty p) = broken p
+field_at role s at (Err p) = broken p
 
 -- ---- groups
 
@@ -80,13 +78,13 @@ unfoldable pub content_by : (ℕ → ℕ → Parsed) → ℕ → List ℕ → �
 content_by element role s at = items_by element role s (suc (length s)) at
 
 -- a group's element that begins at a place, after its start tag
-abbrev pub group_at : (ℕ → ℕ → Parsed) → ℕ → List ℕ → ℕ → Tag → Parsed
-group_at element role s at (Open end inside) =
+abbrev pub group_at : (ℕ → ℕ → Parsed) → ℕ → List ℕ → ℕ → Result Tag ℕ → Parsed
+group_at element role s at (Ok (Open end inside)) =
     on_read (content_by element role s inside) (λ e f.
     on_reached (end_at s at e) (λ n.
     read n (whole role at f)))
-group_at element role s at (Empty end next) = read next (whole role at none)
-group_at element role s at (Faulty p) = broken p
+group_at element role s at (Ok (Empty end next)) = read next (whole role at none)
+group_at element role s at (Err p) = broken p
 
 -- ---- elements
 

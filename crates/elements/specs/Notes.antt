@@ -1,17 +1,15 @@
 -- What is noted of the needed elements while they are read: the place of each role, the first element that lacks something, how many
 -- messages there are. Assumes nothing.
-use Rattle.std.specs.Prelude.{ℕ, suc, ◌+◌, min, ◌≡◌, Bool, cond, List, length, get_or, set, replicate, eqb, ltb}
-use Rattle.letters.specs.Places.{byte_at}
-use Rattle.letters.specs.declared.Reach.{Reach}
-use Rattle.letters.specs.declared.Reach.TheVariants.{To, Broken}
+use Rattle.std.specs.Prelude.{ℕ, suc, ◌+◌, min, ◌≡◌, Bool, cond, List, length, get_or, set, replicate, eqb, ltb, Result, Ok, Err}
+use Rattle.letters.specs.Places.{byte_at, Reach}
 use Rattle.tags.specs.Names.{name_start}
 use Rattle.paths.specs.Roles as roles
 use Rattle.paths.specs.Table.{lacks}
 use Rattle.elements.specs.Forest.{Forest, none, tree, count_of}
 use Rattle.elements.specs.Grammar.{Parsed, read, broken, deep}
 pub use Rattle.elements.specs.Questions.{too_many}
-use Rattle.elements.specs.declared.Step.{Step}
-use Rattle.elements.specs.declared.Step.TheVariants.{Done, Form, Deep}
+use Rattle.elements.specs.declared.Stop.{Stop}
+use Rattle.elements.specs.declared.Stop.TheVariants.{Form, Deep}
 
 -- notes are numbers: by role the place of the last element that plays it; then these two
 abbrev pub lack_note : ℕ
@@ -44,10 +42,10 @@ noted (tree role place inner rest) notes = noted rest (noting role place (lacks 
 
 -- ---- what reading an element tells
 
-abbrev pub step_of : Parsed → Step
-step_of (read n f) = Done n
-step_of (broken p) = Form p
-step_of (deep p) = Deep p
+abbrev pub step_of : Parsed → Result ℕ Stop
+step_of (read n f) = Ok n
+step_of (broken p) = Err (Form p)
+step_of (deep p) = Err (Deep p)
 
 -- the notes follow from what was read; where nothing was, they may hold anything
 abbrev pub Noted : Parsed → List ℕ → List ℕ → Type 0
@@ -70,12 +68,16 @@ NotedIn role place (deep p) before after = Unit {0}
 -- ---- what the functions of an element tell
 
 -- where no level is left
-abbrev pub shallow : List ℕ → ℕ → Step
-shallow s at = cond (ltb at (length s)) (cond (name_start (byte_at s (at + 1))) (Deep at) (Form (at + 1))) (Form at)
+abbrev pub shallow : List ℕ → ℕ → Result ℕ Stop
+shallow s at = cond (ltb at (length s)) (cond (name_start (byte_at s (at + 1))) (Err (Deep at)) (Err (Form (at + 1)))) (Err (Form at))
 
-abbrev pub closed_by : Reach → Step
-closed_by (To n) = Done n
-closed_by (Broken p) = Form p
+-- where the form is broken, that is the reason to stop
+abbrev pub formed : {A : Type 0} → Result A ℕ → Result A Stop
+formed (Ok a) = Ok a
+formed (Err p) = Err (Form p)
+
+abbrev pub closed_by : Reach → Result ℕ Stop
+closed_by r = formed r
 
 -- counts by role, up to two, with one child more
 abbrev pub bumped : ℕ → List ℕ → List ℕ

@@ -4,14 +4,15 @@ ghost use Rattle.paths.specs.Table.{lacks};
 ghost use Rattle.elements.specs.Forest.{none, count_of};
 ghost use Rattle.elements.specs.Notes.{one_more, counted, warned, placed, noting, bumped};
 
-use crate::{LACK, MESSAGES};
+use crate::{LACK, MESSAGES, TOO_MANY};
 
 fn note_at(notes: &[usize], k: usize) -> usize
     ensures { result ≡ get_or notes.now k 0 }
 {
-    if k < notes.len() { notes[k] } else { 0 }
+    notes.get(k).copied().unwrap_or(0)
 }
 
+// By place, here and in `count`: by `get_mut` the proof did not close.
 fn put_note(notes: &mut [usize], k: usize, v: usize)
     ensures { notes.new ≡ set notes.old k v }
 {
@@ -23,39 +24,38 @@ fn put_note(notes: &mut [usize], k: usize, v: usize)
 fn one_more(n: usize) -> usize
     ensures { result ≡ one_more n }
 {
-    if n < 4294967296 { n + 1 } else { n }
+    if n < TOO_MANY { n + 1 } else { n }
 }
 
+// Counts a message. Whether it is one stays a flag, as `counted` takes it.
 fn count_message(notes: &mut [usize], message: bool)
     ensures { notes.new ≡ counted message notes.old }
 {
-    if !message {
-        return;
+    if message {
+        let n = one_more(note_at(notes, MESSAGES));
+        put_note(notes, MESSAGES, n);
     }
-    let n = one_more(note_at(notes, MESSAGES));
-    put_note(notes, MESSAGES, n);
 }
 
+// Notes the first that lacks something, likewise (`warned`).
 fn warn(notes: &mut [usize], lack: bool, place: usize)
     ensures { notes.new ≡ warned lack place notes.old }
 {
-    if !lack {
-        return;
+    if lack {
+        let first = wire::least(note_at(notes, LACK), place);
+        put_note(notes, LACK, first);
     }
-    let first = wire::least(note_at(notes, LACK), place);
-    put_note(notes, LACK, first);
 }
 
 fn put_place(notes: &mut [usize], role: usize, place: usize)
     ensures { notes.new ≡ placed role place notes.old }
 {
-    if paths::ROLES <= role {
-        return;
+    if role < paths::ROLES {
+        put_note(notes, role, place);
     }
-    put_note(notes, role, place);
 }
 
-// Notes an element of a role, of which is known whether it lacks something.
+// Notes an element of a role, of which is known whether it lacks something. Role and place stay parameters, as `noting` takes them.
 pub(crate) fn note(notes: &mut [usize], role: usize, place: usize, lack: bool)
     ensures { notes.new ≡ noting role place lack notes.old }
 {
@@ -99,6 +99,6 @@ pub(crate) fn note_group(notes: &mut [usize], role: usize, place: usize, counts:
 pub(crate) fn note_bare(notes: &mut [usize], role: usize, place: usize)
     ensures { notes.new ≡ noting role place (lacks role (count_of none)) notes.old }
 {
-    let counts = [0u8; 34];
+    let counts = [0u8; paths::ROLES];
     note_group(notes, role, place, &counts);
 }

@@ -8,12 +8,11 @@ ghost use Rattle.tally.specs.Tally.{cents_of};
 ghost use Rattle.faults.specs.Faults.{bulk_facts_given, message_facts_given};
 ghost use Rattle.faults.specs.Asked.{BulkAsked, MessageAsked};
 
-use routing::Found;
 use rules::Terms;
 use sheet::{Header, Message};
 use tally::Cents;
 
-// The bits of a bulk's faults.
+// The bits of a bulk's faults. Numbers and no enum: `masks::flag` takes any bit, and would be handed each by a cast.
 pub const MARKS_WRONG: u16 = 0;
 
 pub const NO_PARTICIPANT: u16 = 1;
@@ -32,7 +31,7 @@ pub const SUM_WRONG: u16 = 7;
 
 pub const DATE_CLOSED: u16 = 8;
 
-// The bits of a message's faults.
+// The bits of a message's faults, likewise.
 pub const BADLY_FORMED: u16 = 0;
 
 pub const REPEATED: u16 = 1;
@@ -58,7 +57,7 @@ pub fn bulk_faults(
     sheet: &[u8],
     table: &[u8],
     header: Header,
-    row: Found,
+    row: Option<usize>,
     repeats: bool,
     number: u64,
     sum: Cents,
@@ -75,6 +74,7 @@ pub fn bulk_faults(
     let number_wrong = rules::number_wrong(header.number, number);
     let sum_wrong = rules::sum_wrong(header.sum, sum);
     let date_closed = rules::date_closed(header.date);
+    // a line for each bit, by its name: in an array of facts the place alone would say which bit it is
     let m = masks::flag(0, MARKS_WRONG, marks_wrong);
     let m = masks::flag(m, NO_PARTICIPANT, no_participant);
     let m = masks::flag(m, DATE_WRONG, date_wrong);
@@ -93,7 +93,7 @@ pub fn message_faults(
     table: &[u8],
     header: Header,
     message: Message,
-    row: Found,
+    row: Option<usize>,
     repeats: bool,
 ) -> u16
     requires { MessageAsked terms sheet.now table.now header message row }

@@ -9,13 +9,12 @@ use lib.Dec.{eqb}
 use lib.ListN.{length, take, replicate, length-take}
 use lib.Seq.{sets, take_all, take-take, take-append-le}
 use borrow.Author.Tests.{eq-eqb, ne_eqb, eqb-true}
+use Rattle.std.specs.Prelude.{Option, Some, None}
 use Rattle.wire.specs.Field.{same}
 use Rattle.wire.proofs.Numbers.{bytes_length}
 use Rattle.wire.proofs.Sides.{le_or_lt}
 use Rattle.wire.proofs.Texts.{same_short}
 use Rattle.meanings.specs.Meanings as meanings
-use Rattle.meanings.specs.declared.Meant.{Meant}
-use Rattle.meanings.specs.declared.Meant.TheVariants.{Is, Nothing}
 use Rattle.meanings.proofs.Fills.{filled_length, receiver_length, other_receiver}
 use Rattle.paths.specs.Roles as roles
 use Rattle.fields.specs.Fields.{width_of, field_width, meant_bytes, field_bytes}
@@ -23,9 +22,9 @@ use Rattle.fields.proofs.Forms.{width_small, long_number, long_date, long_amount
 
 -- ---- how many
 
-meant_length : (w : ℕ) (m : Meant) → length (meant_bytes w m) ≡ w
-meant_length w (Is n) = bytes_length w n
-meant_length w Nothing = bytes_length w 0
+meant_length : (w : ℕ) (m : Option ℕ) → length (meant_bytes w m) ≡ w
+meant_length w (Some n) = bytes_length w n
+meant_length w None = bytes_length w 0
 
 either : (a : Bool) (x y : List ℕ) (m n : ℕ) → length x ≡ m → length y ≡ n → length (cond a x y) ≡ cond a m n
 either true x y m n ex ey = ex
@@ -114,6 +113,10 @@ module _ (role : ℕ) (t : List ℕ) where
   unfolding field_bytes
   bytes_number e = rw (eq-eqb role 22 e)
 
+  pub bytes_receiver : role ≡ roles.receiver → meanings.receiver t ≡ field_bytes role t
+  unfolding field_bytes
+  bytes_receiver e = rw e
+
   module _ (other : role ≡ roles.stated_number → ⊥) where
     pub bytes_date : role ≡ roles.value_date → meant_bytes 4 (meanings.date_meant t) ≡ field_bytes role t
     unfolding field_bytes
@@ -125,10 +128,6 @@ module _ (role : ℕ) (t : List ℕ) where
       bytes_amount e = rw (ne_eqb role 22 other, ne_eqb role 24 undated, e)
 
       module _ (unsummed : roles.is_amount role ≡ false) where
-        pub bytes_receiver : role ≡ roles.receiver → meanings.receiver t ≡ field_bytes role t
-        unfolding field_bytes
-        bytes_receiver e = rw (ne_eqb role 22 other, ne_eqb role 24 undated, unsummed, eq-eqb role 29 e)
-
         pub bytes_text : (role ≡ roles.receiver → ⊥) → meanings.filled (width_of role) t ≡ field_bytes role t
         unfolding field_bytes
         bytes_text e = rw (ne_eqb role 22 other, ne_eqb role 24 undated, unsummed, ne_eqb role 29 e)

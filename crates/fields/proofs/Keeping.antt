@@ -38,3 +38,6 @@ module _ (t kept : List ℕ) (long : ℕ) (k : Kept t kept long) where
 
   pub kept_long : 35 < long → 35 < length t
   kept_long h = omega arith
+
+  pub kept_told : take 35 (take long kept) ≡ take 35 t
+  kept_told = ap (take 35) kept_text ∙ take-take 35 35 t (omega arith)

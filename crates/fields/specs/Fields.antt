@@ -1,9 +1,7 @@
 -- The fields: which form the text of each must have, and the bytes of the sheet that it becomes. Assumes nothing.
-use Rattle.std.specs.Prelude.{ℕ, Bool, true, false, cond, ◌||◌, List, length, leb, eqb}
+use Rattle.std.specs.Prelude.{ℕ, Bool, true, cond, ◌||◌, List, length, leb, eqb, Option, Some, None, is_some}
 use Rattle.wire.specs.Field.{bytes_of, text, same}
 use Rattle.meanings.specs.Meanings as meanings
-use Rattle.meanings.specs.declared.Meant.{Meant}
-use Rattle.meanings.specs.declared.Meant.TheVariants.{Is, Nothing}
 use Rattle.paths.specs.Roles as roles
 
 -- ---- the form of a field's text
@@ -22,9 +20,8 @@ abbrev pub is_mark : ℕ → Bool
 is_mark role = eqb role roles.method || eqb role roles.system
 
 -- whether a text means a number
-abbrev pub is_meant : Meant → Bool
-is_meant (Is n) = true
-is_meant Nothing = false
+abbrev pub is_meant : Option ℕ → Bool
+is_meant m = is_some m
 
 unfoldable pub fits : ℕ → List ℕ → Bool
 fits role t =
@@ -37,9 +34,9 @@ fits role t =
 -- ---- its bytes
 
 -- a number in so many bytes; 0 for a text that means none, which no text that fits does
-abbrev pub meant_bytes : ℕ → Meant → List ℕ
-meant_bytes w (Is n) = bytes_of w n
-meant_bytes w Nothing = bytes_of w 0
+abbrev pub meant_bytes : ℕ → Option ℕ → List ℕ
+meant_bytes w (Some n) = bytes_of w n
+meant_bytes w None = bytes_of w 0
 
 unfoldable pub field_bytes : ℕ → List ℕ → List ℕ
 field_bytes role t =

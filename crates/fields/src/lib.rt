@@ -3,13 +3,14 @@
 // and any place.
 #![tactic(auto)]
 
-ghost use Rattle.std.specs.Prelude.{◌≡◌, [], ℕ, ◌<◌, length};
+ghost use Rattle.std.specs.Prelude.{◌≡◌, [], ◌<◌, length, IfSome};
 ghost use Rattle.std.proofs.lemmas.List.Edits.{sets};
 ghost use Rattle.wire.specs.Field.{part, same};
 ghost use Rattle.prose.specs.Prose.{said_at};
-ghost use Rattle.fields.specs.Fields.{is_mark, width_of, is_meant, fits, meant_bytes, field_bytes, is_clearing, is_system};
+ghost use Rattle.fields.specs.Told.{is_cut, bytes_told, ToldOf};
+ghost use Rattle.fields.specs.Fields.{is_mark, width_of, fits, meant_bytes, field_bytes, is_clearing, is_system};
 
-use meanings::Meant;
+use prose::Said;
 
 // How many bytes the sheet has for a text.
 const SENDER_WIDTH: usize = 8;
@@ -25,24 +26,58 @@ const MOST_KEPT: usize = 35;
 
 // ---- texts
 
-// What the text at a place says: so many bytes of its own from that place on; or it is not that simple.
-#[derive(Clone, Copy)]
-enum Straight {
-    Says(usize),
-    Otherwise,
-}
-
-// Nearly every text is straight bytes up to a tag, and says those; it is read where it stands, with no copy.
-fn straight_at(s: &[u8], at: usize) -> Straight
-    ensures { (n : ℕ) → result ≡ Straight.Says n → said_at s.now at ≡ part s.now at n }
+// How many bytes of its own the text at a place says, where it is that simple. Nearly every text is straight bytes up to a tag, and says
+// those; it is read where it stands, with no copy.
+fn straight_at(s: &[u8], at: usize) -> Option<usize>
+    ensures { IfSome result (λ n. said_at s.now at ≡ part s.now at n) }
 {
     let e = prose::straight_end(s, at);
     if letters::byte_at(s, e) == b'<' {
         if letters::byte_at(s, e + 1) != b'!' {
-            return Straight::Says(e - at);
+            return Some(e - at);
         }
     }
-    Straight::Otherwise
+    None
+}
+
+// What a text says: its own bytes where they stand, or those that are kept of it.
+#[derive(Clone, Copy)]
+enum Told<'a> {
+    Straight(&'a [u8]),
+    Kept(Said),
+}
+
+impl<'a> Told<'a> {
+    // What the text at a place says. Written into its callers, it makes no copy of what is kept.
+    #[inline(always)]
+    fn at(s: &'a [u8], at: usize) -> Self
+        ensures { ToldOf (said_at s.now at) result }
+    {
+        match straight_at(s, at) {
+            Some(n) => Told::Straight(wire::text_at(s, at, n)),
+            None => Told::Kept(prose::said_at(s, at)),
+        }
+    }
+
+    // Whether it says more than is kept.
+    fn is_cut(&self) -> bool
+        ensures { result ≡ is_cut self.now }
+    {
+        match self {
+            Told::Straight(_) => false,
+            Told::Kept(said) => MOST_KEPT < said.length,
+        }
+    }
+
+    // All of it, or what is kept.
+    fn bytes(&self) -> &[u8]
+        ensures { result.now ≡ bytes_told self.now }
+    {
+        match self {
+            Told::Straight(t) => t,
+            Told::Kept(said) => wire::text_at(&said.bytes, 0, said.length),
+        }
+    }
 }
 
 // ---- forms
@@ -56,25 +91,12 @@ fn is_mark(role: usize) -> bool
 fn width_of(role: usize) -> usize
     ensures { result ≡ width_of role }
 {
-    if role == paths::SENDER {
-        SENDER_WIDTH
-    } else if role == paths::RECEIVER {
-        RECEIVER_WIDTH
-    } else if role == paths::REASON {
-        REASON_WIDTH
-    } else if role == paths::ORIGINAL_NAME {
-        NAME_WIDTH
-    } else {
-        MOST_KEPT
-    }
-}
-
-fn is_meant(m: Meant) -> bool
-    ensures { result ≡ is_meant m }
-{
-    match m {
-        Meant::Is(_) => true,
-        Meant::Nothing => false,
+    match role {
+        paths::SENDER => SENDER_WIDTH,
+        paths::RECEIVER => RECEIVER_WIDTH,
+        paths::REASON => REASON_WIDTH,
+        paths::ORIGINAL_NAME => NAME_WIDTH,
+        _ => MOST_KEPT,
     }
 }
 
@@ -82,41 +104,24 @@ fn is_meant(m: Meant) -> bool
 fn fits_text(role: usize, t: &[u8]) -> bool
     ensures { result ≡ fits role t.now }
 {
-    if is_mark(role) {
-        return true;
+    match role {
+        _ if is_mark(role) => true,
+        paths::STATED_NUMBER => meanings::number(t).is_some(),
+        paths::VALUE_DATE => meanings::date(t).is_some(),
+        _ if paths::is_amount(role) => meanings::amount(t).is_some(),
+        _ => t.len() <= width_of(role),
     }
-    if role == paths::STATED_NUMBER {
-        return is_meant(meanings::number(t));
-    }
-    if role == paths::VALUE_DATE {
-        return is_meant(meanings::date(t));
-    }
-    if paths::is_amount(role) {
-        return is_meant(meanings::amount(t));
-    }
-    t.len() <= width_of(role)
 }
 
-// The same by what is kept of what a text says. One that is longer than that has no form but that of a mark.
-fn fits_kept(role: usize, s: &[u8], at: usize) -> bool
-    ensures { result ≡ fits role (said_at s.now at) }
-{
-    let said = prose::said_at(s, at);
-    let bytes = said.bytes;
-    let long = said.length;
-    if MOST_KEPT < long {
-        return is_mark(role);
-    }
-    fits_text(role, wire::text_at(&bytes, 0, long))
-}
-
-// The same for what the text of an element says.
+// The same for what the text of an element says. One that is longer than is kept has no form but that of a mark.
 pub fn fits_at(role: usize, s: &[u8], at: usize) -> bool
     ensures { result ≡ fits role (said_at s.now at) }
 {
-    match straight_at(s, at) {
-        Straight::Says(n) => fits_text(role, wire::text_at(s, at, n)),
-        Straight::Otherwise => fits_kept(role, s, at),
+    let told = Told::at(s, at);
+    if told.is_cut() {
+        is_mark(role)
+    } else {
+        fits_text(role, told.bytes())
     }
 }
 
@@ -130,72 +135,40 @@ pub fn fits_empty(role: usize) -> bool
 // ---- bytes
 
 // Writes what a text means in n bytes; 0 for one that means nothing.
-fn put_meant(d: &mut [u8], place: usize, n: usize, m: Meant)
+fn put_meant(d: &mut [u8], place: usize, n: usize, m: Option<u64>)
     ensures { d.new ≡ sets d.old place (meant_bytes n m) }
 {
-    match m {
-        Meant::Is(v) => writing::put_number(d, place, n, v),
-        Meant::Nothing => writing::put_number(d, place, n, 0),
-    }
+    writing::put_number(d, place, n, m.unwrap_or(0));
 }
 
 // Writes the bytes of a field whose whole text is at hand.
 fn put_text(d: &mut [u8], place: usize, role: usize, t: &[u8])
     ensures { d.new ≡ sets d.old place (field_bytes role t.now) }
 {
-    if role == paths::STATED_NUMBER {
-        put_meant(d, place, 8, meanings::number(t));
-    } else if role == paths::VALUE_DATE {
-        put_meant(d, place, 4, meanings::date(t));
-    } else if paths::is_amount(role) {
-        put_meant(d, place, 8, meanings::amount(t));
-    } else if role == paths::RECEIVER {
-        meanings::put_receiver(d, place, t);
-    } else {
-        meanings::put_filled(d, place, width_of(role), t);
+    match role {
+        paths::STATED_NUMBER => put_meant(d, place, 8, meanings::number(t)),
+        paths::VALUE_DATE => put_meant(d, place, 4, meanings::date(t)),
+        paths::RECEIVER => meanings::put_receiver(d, place, t),
+        _ if paths::is_amount(role) => put_meant(d, place, 8, meanings::amount(t)),
+        _ => meanings::put_filled(d, place, width_of(role), t),
     }
 }
 
-// The same from what is kept of what a text says. What is cut off one that is too long to be kept leaves the same bytes.
-fn put_kept(d: &mut [u8], place: usize, role: usize, s: &[u8], at: usize)
-    ensures { d.new ≡ sets d.old place (field_bytes role (said_at s.now at)) }
-{
-    let said = prose::said_at(s, at);
-    let bytes = said.bytes;
-    put_text(d, place, role, wire::text_at(&bytes, 0, said.length));
-}
-
-// Writes the bytes of a field from what its text says.
+// Writes the bytes of a field from what its text says. What is cut off one that is too long to be kept leaves the same bytes.
 pub fn put_field(d: &mut [u8], place: usize, role: usize, s: &[u8], at: usize)
     ensures { d.new ≡ sets d.old place (field_bytes role (said_at s.now at)) }
 {
-    match straight_at(s, at) {
-        Straight::Says(n) => put_text(d, place, role, wire::text_at(s, at, n)),
-        Straight::Otherwise => put_kept(d, place, role, s, at),
-    }
+    put_text(d, place, role, Told::at(s, at).bytes());
 }
 
 // ---- marks
 
-// Whether the text says a word, by what is kept of it.
-fn keeps(s: &[u8], at: usize, word: &[u8]) -> bool
-    requires { length word.now < 35 }
-    ensures { result ≡ same (said_at s.now at) word.now }
-{
-    let said = prose::said_at(s, at);
-    let bytes = said.bytes;
-    texts::same(wire::text_at(&bytes, 0, said.length), word)
-}
-
-// Whether the text says a word.
+// Whether the text says a word: one that is shorter than what is kept.
 fn says(s: &[u8], at: usize, word: &[u8]) -> bool
     requires { length word.now < 35 }
     ensures { result ≡ same (said_at s.now at) word.now }
 {
-    match straight_at(s, at) {
-        Straight::Says(n) => texts::same(wire::text_at(s, at, n), word),
-        Straight::Otherwise => keeps(s, at, word),
-    }
+    texts::same(Told::at(s, at).bytes(), word)
 }
 
 // Whether the text says that the bulk is settled by a clearing system.

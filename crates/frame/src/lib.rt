@@ -16,7 +16,8 @@ pub const MOST_PART: usize = 16384;
 // What is read: a date and three parts, each after its length, and one byte more.
 pub const MOST_READ: usize = 49169;
 
-// The n bytes that were read. Whatever follows them in an input that is longer, they tell whether it is in shape.
+// The n bytes that were read. Whatever follows them in an input that is longer, they tell whether it is in shape. The buffer and n stay two
+// parameters, as `ReadOf` takes them.
 pub fn read_of(buffer: &[u8; MOST_READ], n: usize) -> &[u8]
     ensures { ReadOf buffer.now n result.now }
 {

@@ -16,7 +16,6 @@ use Rattle.wire.specs.Places.{first_from}
 use Rattle.wire.proofs.Scans.{first_found}
 use Rattle.slots.specs.Slots.{names}
 use Rattle.slots.specs.Stored.{most_slots, added}
-use Rattle.slots.specs.Asked.{Within, Sized}
 use Rattle.slots.proofs.Walks.{names_told, names_least}
 use Rattle.slots.proofs.Laws.{built_length, built_finds, built_reads, stored_is, built_add}
 use Rattle.register.specs.Register.{key_width, entry_width, used, room, in_use, entry_place, entry_at, key_at, key_in, search, is_there, stands, add}
@@ -31,13 +30,6 @@ use Rattle.index.proofs.Ways.{AllFormed}
 pub index_length_lem : (r : List ℕ) → length (index_of r) ≡ index_length r
 unfolding index_of
 index_length_lem r = built_length entry_layout r (index_length r) (in_use r)
-
--- the keys of the entries in use lie in the register
-pub keys_within : (r : List ℕ) → Formed r → Within entry_layout r (in_use r)
-keys_within r f k h = omega (arith, f.whole)
-
-pub index_sized : (r index : List ℕ) → Formed r → length index ≡ index_length r → Sized index (in_use r)
-index_sized r index f long = record { whole = omega (arith, f.few); enough = omega (arith, f.few) }
 
 -- ---- what a search tells
 

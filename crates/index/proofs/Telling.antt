@@ -1,23 +1,21 @@
--- What `seek`, `enter`, `enter_anew`, `build` and `is_built` tell, from what the functions that they call tell. Assumes nothing.
+-- What `seek`, `enter`, `build` and `is_built` tell, from what the functions that they call tell. Assumes nothing.
 use mathlib.Core.Path.{◌≡◌, sym, ap, ◌∙◌}
 use mathlib.Core.Bool.{Bool, true, false, false≢true}
 use mathlib.Core.List.{List}
-use Prim.Native.Nat.{ℕ, ◌*◌, ◌≤◌, ◌<◌}
+use Prim.Native.Nat.{ℕ, ◌<◌}
 use native.Mathlib.Omega.{arith}
 use lib.ListN.{length}
 use Rattle.wire.specs.Field.{same}
 use Rattle.slots.specs.Slots.{End, names}
-use Rattle.slots.specs.Stored.{slot_width, searched_in, added, built_in}
+use Rattle.slots.specs.Stored.{searched_in, added, built_in}
 use Rattle.slots.specs.Asked.{end_of}
 use Rattle.slots.specs.declared.Layout.{Layout}
 use Rattle.slots.specs.declared.Ended.{Ended}
-use Rattle.register.specs.Register.{used, room, in_use, stands, add}
-use Rattle.register.proofs.Laws.{add_room, spare_less}
-use Rattle.index.specs.Index.{entry_layout, slots_a_place, searched_by, index_of, end_in}
-use Rattle.index.specs.Ready.{index_by, nowhere, Ready, SoughtTold, EnterReady, Entered, EnteredAnew, Measured}
+use Rattle.register.specs.Register.{used, room, in_use, add}
+use Rattle.index.specs.Index.{entry_layout, searched_by, index_of, end_in}
+use Rattle.index.specs.Ready.{index_by, Ready, SoughtTold, EnterReady, Measured}
 use Rattle.index.specs.declared.Sought.{Sought}
-use Rattle.index.proofs.Ways.{read_of}
-use Rattle.index.proofs.Laws.{index_length_lem, finds, index_add}
+use Rattle.index.proofs.Laws.{finds, index_add}
 
 module _ (r index key : List ℕ) where
   -- ---- a search
@@ -37,11 +35,6 @@ module _ (r index key : List ℕ) where
         ended = is;
       }
 
-  pub sought_plain : (t : Bool) (ended : Ended) (there : Bool) → t ≡ false → end_of ended ≡ nowhere → there ≡ stands r key
-      → SoughtTold t r key (record { there = there; ended = ended })
-  sought_plain true ended there e ee et = absurd (false≢true (sym e))
-  sought_plain false ended there e ee et = record { there = et; ended = ee }
-
   -- ---- an addition
 
   pub entered_by_lem : (t : Bool) (sought : Sought) (k : ℕ) (index' : List ℕ) → EnterReady t r index key sought → t ≡ true → k ≡ used r
@@ -59,29 +52,6 @@ module _ (r index key : List ℕ) where
   pub entered_plain : (t : Bool) (index' : List ℕ) → t ≡ false → index' ≡ index → index' ≡ index_by t index (add r key)
   entered_plain true index' e ei = absurd (false≢true (sym e))
   entered_plain false index' e ei = ei
-
-  -- the index stays as long
-  pub entered_long : (t : Bool) (index' : List ℕ) → index ≡ index_by t index r → index' ≡ index_by t index (add r key) → length index' ≡ length index
-  entered_long true index' e ei =
-      ap length ei
-      ∙ index_length_lem (add r key)
-      ∙ ap (λ (n : ℕ). slot_width * (slots_a_place * n)) (add_room r key)
-      ∙ sym (ap length e ∙ index_length_lem r)
-  entered_long false index' e ei = ap length ei
-
-  -- ---- both, one after the other
-
-  pub anew_by_index : (t : Bool) (register' index' : List ℕ) (sought : Sought) → SoughtTold t r key sought → Entered t r index key register' index'
-      → EnteredAnew t r index key register' index' sought.ended.read
-  anew_by_index t register' index' sought told entered =
-      record { entered = entered; read = ap (λ (x : End). x.read) told.ended ∙ read_of t (record { register = r; key = key }) }
-
-  pub anew_plain : (t : Bool) (register' : List ℕ) → t ≡ false → register' ≡ add r key → EnteredAnew t r index key register' index 0
-  anew_plain t register' e er = record { entered = record { recorded = er; kept = rw e }; read = rw e }
-
--- fewer places may be asked for
-pub ready_less : (t : Bool) (r index : List ℕ) (m n : ℕ) → n ≤ m → Ready t r index m → Ready t r index n
-ready_less t r index m n h q = record { spare = spare_less r m n h q.spare; kept = q.kept }
 
 -- ---- the whole index
 

@@ -11,7 +11,8 @@ use slots::{Ended, Layout};
 
 const SLOTS_A_PLACE: usize = 2;
 
-// What a search tells: whether the key is there, and of a search by the index how it ended.
+// What a search tells: whether the key is there, and of a search by the index how it ended. Whether an index is lent, `indexed`, stays a
+// value and no type: `index_by`, `SoughtTold` and `slots_read` define what comes of either.
 #[derive(Clone, Copy)]
 pub struct Sought {
     pub there: bool,

@@ -8,9 +8,8 @@ use lib.Dec.{ltb}
 use lib.ListN.{length}
 use borrow.Author.Tests.{lt-ltb, le-ltb, ltb-true, ltb-false}
 use Rattle.wire.specs.Field.{same}
-use Rattle.letters.specs.Places.{byte_at, going, walk, walk_by, on_turn}
-use Rattle.letters.specs.declared.Reach.{Reach}
-use Rattle.letters.specs.declared.Reach.TheVariants.{To, Broken}
+use Rattle.letters.specs.Places.{byte_at, going, walk, walk_by, on_turn, Reach}
+use Rattle.std.specs.Prelude.{Ok, Err}
 use Rattle.letters.specs.declared.Turn.{Turn}
 use Rattle.letters.specs.declared.Turn.TheVariants.{On, Ends, Breaks}
 use Rattle.letters.proofs.Scans.{run_stops, run_ends}
@@ -25,14 +24,14 @@ use Rattle.joining.proofs.Values.{attribute_name, attribute_in}
 
 pub data Chain (s : List ℕ) (at : ℕ) : ℕ → Type 0 where
   here : {from : ℕ} → from ≡ at → Chain s at from
-  link : {from : ℕ} → (next : ℕ) → attribute_at s (space_end s from) ≡ To next → Chain s at next → Chain s at from
+  link : {from : ℕ} → (next : ℕ) → attribute_at s (space_end s from) ≡ Ok next → Chain s at next → Chain s at from
 
 module _ (s : List ℕ) where
   chain_forward : (at from : ℕ) → Chain s at from → from ≤ at
   chain_forward at from (here e) = omega arith
   chain_forward at from (link next e more) = omega (arith, attribute_forward s (space_end s from) next e, chain_forward at next more)
 
-  chain_more : (at from next : ℕ) → Chain s at from → attribute_at s (space_end s at) ≡ To next → Chain s next from
+  chain_more : (at from next : ℕ) → Chain s at from → attribute_at s (space_end s at) ≡ Ok next → Chain s next from
   chain_more at from next (here is) e = link {from = from} next (rw is e) (here refl)
   chain_more at from next (link k is more) e = link k is (chain_more at k next more e)
 
@@ -42,7 +41,7 @@ data Turned (s : List ℕ) (from at : ℕ) (r : Turn) : Type 0 where
   plain : is_space (byte_at s at) ≡ false → r ≡ Ends at → Turned s from at r
   spaced : is_space (byte_at s at) ≡ true → name_start (byte_at s (space_end s at)) ≡ false → r ≡ Ends (space_end s at) → Turned s from at r
   another : is_space (byte_at s at) ≡ true → name_start (byte_at s (space_end s at)) ≡ true → named s from (space_end s at) ≡ false
-      → (n : ℕ) → attribute_at s (space_end s at) ≡ To n → r ≡ On n → Turned s from at r
+      → (n : ℕ) → attribute_at s (space_end s at) ≡ Ok n → r ≡ On n → Turned s from at r
   breaks : (p : ℕ) → r ≡ Breaks p → Turned s from at r
 
 turned : (s : List ℕ) (from at : ℕ) → Turned s from at (attribute_turn s from at)
@@ -55,8 +54,8 @@ turned s from at = by_test (is_space (byte_at s at)) refl (name_start (byte_at s
     by_test false p b o c u r w = plain p refl
     by_test true p false o c u r w = spaced p o refl
     by_test true p true o true u r w = breaks (space_end s at) refl
-    by_test true p true o false u (To n) w = another p o u n w refl
-    by_test true p true o false u (Broken k) w = breaks k refl
+    by_test true p true o false u (Ok n) w = another p o u n w refl
+    by_test true p true o false u (Err k) w = breaks k refl
 
 -- a walk ends where the spaces behind the last attribute do
 pub record Ended (s : List ℕ) (from end : ℕ) : Type 0 where
@@ -90,25 +89,25 @@ module _ (s : List ℕ) (from : ℕ) where
       by_turn r (another a b c m told is) e = absurd (let z : ◌≡◌ {A = ℕ} 0 1 = cc in omega arith)
       by_turn r (breaks p is) e = absurd (let z : ◌≡◌ {A = ℕ} 0 1 = cc in omega arith)
 
-  walk_ended : (f at n : ℕ) → Chain s at from → walk_by (attribute_turn s from) f at ≡ To n → Ended s from n
+  walk_ended : (f at n : ℕ) → Chain s at from → walk_by (attribute_turn s from) f at ≡ Ok n → Ended s from n
   unfolding walk_by
   walk_ended zero at n chain e = absurd (let z : ◌≡◌ {A = ℕ} 0 1 = cc in omega arith)
   walk_ended (suc f) at n chain e = by_turn (walk_ended f) (attribute_turn s from at) refl e
     where
-      by_turn : ((at n : ℕ) → Chain s at from → walk_by (attribute_turn s from) f at ≡ To n → Ended s from n) → (r : Turn) → attribute_turn s from at ≡ r
-          → on_turn r (λ next. walk_by (attribute_turn s from) f next) ≡ To n → Ended s from n
+      by_turn : ((at n : ℕ) → Chain s at from → walk_by (attribute_turn s from) f at ≡ Ok n → Ended s from n) → (r : Turn) → attribute_turn s from at ≡ r
+          → on_turn r (λ next. walk_by (attribute_turn s from) f next) ≡ Ok n → Ended s from n
       by_turn rest (On next) e told = rest next n (turn_keeps at next chain e) told
       by_turn rest (Ends m) e told = let same : m ≡ n = cc in record { at = at; chain = chain; is = sym same ∙ turn_end at m e }
       by_turn rest (Breaks p) e told = absurd (let z : ◌≡◌ {A = ℕ} 0 1 = cc in omega arith)
 
-  pub attributes_ended : (n : ℕ) → attributes_at s from ≡ To n → Ended s from n
+  pub attributes_ended : (n : ℕ) → attributes_at s from ≡ Ok n → Ended s from n
   unfolding attributes_at walk
   attributes_ended n e = walk_ended (suc (length s)) from n (here refl) e
 
 module _ {s t : List ℕ} {d : ℕ} (p : Part s t d) where
   -- ---- a search among them
 
-  module _ (test test' : ℕ → Bool) (agree : (q i n : ℕ) → q ≡ d + i → i ≤ length s → attribute_at t q ≡ To n → n < d + length s → test q ≡ test' i) where
+  module _ (test test' : ℕ → Bool) (agree : (q i n : ℕ) → q ≡ d + i → i ≤ length s → attribute_at t q ≡ Ok n → n < d + length s → test q ≡ test' i) where
     pub some_in : (at end j : ℕ) → end ≡ space_end t at → end ≡ d + j → end < d + length s
         → (f g q i : ℕ) → q ≡ d + i → Chain t at q → end < q + f → j < i + g → some_by test t end f q ≡ some_by test' s j g i
     unfolding some_by
@@ -130,7 +129,7 @@ module _ {s t : List ℕ} {d : ℕ} (p : Part s t d) where
   -- ---- a turn, and the walk
 
   module _ (from from' : ℕ) (w : from ≡ d + from') where
-    named_in : (at q i : ℕ) → Chain t at from → q ≡ space_end t at → q ≡ d + i → (n : ℕ) → attribute_at t q ≡ To n → n < d + length s → named t from q ≡ named s from' i
+    named_in : (at q i : ℕ) → Chain t at from → q ≡ space_end t at → q ≡ d + i → (n : ℕ) → attribute_at t q ≡ Ok n → n < d + length s → named t from q ≡ named s from' i
     unfolding some_attribute
     named_in at q i chain is e n told room =
         let ahead = attribute_forward t q n told in
@@ -163,11 +162,11 @@ module _ {s t : List ℕ} {d : ℕ} (p : Part s t d) where
             let start = byte_in p (space_end t q) (space_end s i) run (omega arith) in
             let once = named_in q (space_end t q) (space_end s i) chain refl run n told room in
             let one = attribute_in p (space_end t q) (space_end s i) n run (omega arith) told room in
-            sym (turn_on s from' i (ap is_space (sym (byte_in p q i e h)) ∙ a) (space_end s i) refl (ap name_start (sym start) ∙ b) (sym once ∙ c) (To (n - d)) one)
+            sym (turn_on s from' i (ap is_space (sym (byte_in p q i e h)) ∙ a) (space_end s i) refl (ap name_start (sym start) ∙ b) (sym once ∙ c) (Ok (n - d)) one)
             ∙ (rw is)
         by_turn r (breaks k is) inside = absurd (rw is at inside)
 
-    pub attributes_in : (n : ℕ) → attributes_at t from ≡ To n → n < d + length s → attributes_at s from' ≡ To (n - d)
+    pub attributes_in : (n : ℕ) → attributes_at t from ≡ Ok n → n < d + length s → attributes_at s from' ≡ Ok (n - d)
     unfolding attributes_at walk
     attributes_in n told room =
         walk_in (attribute_turn t from) (attribute_turn s from') d (length s) (λ k. Chain t k from)

@@ -9,7 +9,7 @@ use lib.ListN.{length, take, drop, length-drop}
 use lib.Seq.{length-take-le}
 use borrow.Author.Tests.{ltb-true, lt-ltb}
 use Rattle.sheet.specs.Sheet.{Bulk}
-use Rattle.letters.specs.declared.Reach.TheVariants.{To}
+use Rattle.std.specs.Prelude.{Ok}
 use Rattle.prolog.specs.Prolog.{prolog}
 use Rattle.prolog.proofs.Laws.{prolog_none}
 use Rattle.elements.specs.Forest.{Forest, none, tree}
@@ -30,7 +30,7 @@ use Rattle.joining.proofs.Prolog.{prolog_front}
 
 pub record Parsing (s : List ℕ) (n : ℕ) (f : Forest) : Type 0 where
   pub at : ℕ
-  pub before : prolog s ≡ To at
+  pub before : prolog s ≡ Ok at
   pub inside : at < length s
   pub roots : roots_at s at ≡ read n f
 
@@ -40,11 +40,11 @@ parsing s n f told =
     let a = reached (prolog s) (λ at. some_roots s at) n f told in
     by_test a.mid a.first (ltb a.mid (length s)) refl a.then
   where
-    by_test : (at : ℕ) → prolog s ≡ To at → (b : Bool) → ltb at (length s) ≡ b → cond b (roots_at s at) (broken at) ≡ read n f → Parsing s n f
+    by_test : (at : ℕ) → prolog s ≡ Ok at → (b : Bool) → ltb at (length s) ≡ b → cond b (roots_at s at) (broken at) ≡ read n f → Parsing s n f
     by_test at before true b told = record { at = at; before = before; inside = ltb-true at (length s) b; roots = told }
     by_test at before false b told = absurd (let z : ◌≡◌ {A = ℕ} 0 1 = cc in omega arith)
 
-parsed_as : (s : List ℕ) (at : ℕ) (r : Parsed) → prolog s ≡ To at → at < length s → roots_at s at ≡ r → parsed s ≡ r
+parsed_as : (s : List ℕ) (at : ℕ) (r : Parsed) → prolog s ≡ Ok at → at < length s → roots_at s at ≡ r → parsed s ≡ r
 unfolding parsed
 parsed_as s at r before inside roots = rw (before, lt-ltb at (length s) inside, roots)
 

@@ -13,8 +13,9 @@ use Rattle.letters.specs.Places.{byte_at}
 use Rattle.letters.proofs.Scans.{run_within}
 use Rattle.tags.specs.Names.{is_space, name_start, space_end, name_at}
 use Rattle.tags.specs.Tags.{start_at, end_at}
+use Rattle.std.specs.Prelude.{Result, Ok, Err}
 use Rattle.tags.specs.declared.Tag.{Tag}
-use Rattle.tags.specs.declared.Tag.TheVariants.{Open, Empty, Faulty}
+use Rattle.tags.specs.declared.Tag.TheVariants.{Open, Empty}
 use Rattle.paths.specs.Roles as roles
 use Rattle.paths.specs.Table.{root_role}
 use Rattle.elements.specs.Forest.{Forest, none, tree, beside}
@@ -49,13 +50,13 @@ module _ (s : List ℕ) (at n : ℕ) (g : Forest) where
       by_test true f e = absurd (false≢true (sym f))
       by_test false f e = sym e
 
-  group_root : (element : ℕ → ℕ → Parsed) (role : ℕ) → role ≤ roles.document → 0 < role → (tag : Tag) → group_at element role s at tag ≡ read n g → Root at g
-  group_root element role low some (Open end inside) told =
+  group_root : (element : ℕ → ℕ → Parsed) (role : ℕ) → role ≤ roles.document → 0 < role → (tag : Result Tag ℕ) → group_at element role s at tag ≡ read n g → Root at g
+  group_root element role low some (Ok (Open end inside)) told =
       let a = went (content_by element role s inside) (λ e f. on_reached (end_at s at e) (λ n. read n (whole role at f))) n g told in
       let d = reached (end_at s at a.mid) (λ n. read n (whole role at a.part)) n g a.then in
       whole_root role a.part low some (let then = d.then in cc)
-  group_root element role low some (Empty end next) told = whole_root role none low some cc
-  group_root element role low some (Faulty p) told = absurd (let z : ◌≡◌ {A = ℕ} 0 1 = cc in omega arith)
+  group_root element role low some (Ok (Empty end next)) told = whole_root role none low some cc
+  group_root element role low some (Err p) told = absurd (let z : ◌≡◌ {A = ℕ} 0 1 = cc in omega arith)
 
   root_low : (name : List ℕ) → (root_role name ≤ roles.document) × (0 < root_role name)
   unfolding root_role

@@ -7,13 +7,12 @@ use native.Mathlib.Omega.{arith}
 use lib.Dec.{eqb, ltb}
 use lib.ListN.{length}
 use borrow.Author.Tests.{eqb-true, eqb-false}
-use Rattle.letters.specs.Places.{byte_at}
-use Rattle.letters.specs.declared.Reach.{Reach}
-use Rattle.letters.specs.declared.Reach.TheVariants.{To, Broken}
+use Rattle.letters.specs.Places.{byte_at, Reach}
+use Rattle.std.specs.Prelude.{Ok, Err, Result}
 use Rattle.tags.specs.Names.{name_start, name_at}
 use Rattle.tags.specs.Tags.{start_at, end_at}
 use Rattle.tags.specs.declared.Tag.{Tag}
-use Rattle.tags.specs.declared.Tag.TheVariants.{Open, Empty, Faulty}
+use Rattle.tags.specs.declared.Tag.TheVariants.{Open, Empty}
 use Rattle.tags.proofs.Tags.{open_forward, end_forward}
 use Rattle.prose.specs.Prose.{text_at}
 use Rattle.prose.proofs.Turns.{text_forward}
@@ -46,7 +45,7 @@ module _ {s t : List ℕ} {d : ℕ} (p : Part s t d) where
     -- ---- a content
 
     module _ (q i : ℕ) (e : q ≡ d + i) (n : ℕ) (f : Forest) (room : n + 1 < d + length s) (told : content_by whole' role t q ≡ read n f) where
-      content_last : (j : ℕ) → text_at t q ≡ To j → byte_at t (j + 1) ≡ 47 → Content q i n f
+      content_last : (j : ℕ) → text_at t q ≡ Ok j → byte_at t (j + 1) ≡ 47 → Content q i n f
       content_last j text slash =
           let is : read j none ≡ read n f = sym (content_ends whole' role t readers.onward q j text slash) ∙ told in
           let ends : j ≡ n = cc in
@@ -62,7 +61,7 @@ module _ {s t : List ℕ} {d : ℕ} (p : Part s t d) where
       Later = (q' i' : ℕ) → q < q' → q' ≡ d + i' → (f' : Forest) → content_by whole' role t q' ≡ read n f' → Content q' i' n f'
 
       -- a child up to a place, and the content behind it
-      child_in : Later → (j mid m : ℕ) (g h : Forest) → text_at t q ≡ To j → (byte_at t (j + 1) ≡ 47 → ⊥)
+      child_in : Later → (j mid m : ℕ) (g h : Forest) → text_at t q ≡ Ok j → (byte_at t (j + 1) ≡ 47 → ⊥)
           → whole' (child_role role (name_at t (j + 1))) j ≡ read mid g → content_by whole' role t mid ≡ read m h → m ≡ n → beside g h ≡ f → Content q i n f
       child_in rest j mid m g h text other one then ends forests =
           let behind : content_by whole' role t mid ≡ read n h = then ∙ ap (λ (k : ℕ). read k h) ends in
@@ -81,7 +80,7 @@ module _ {s t : List ℕ} {d : ℕ} (p : Part s t d) where
             rw forests at (every_beside (Kept p q) g h (kept_later p q j on.0 g child.kept) (kept_later p q mid (omega arith) h others.1)),
           )
 
-      content_more : Later → (j : ℕ) → text_at t q ≡ To j → (byte_at t (j + 1) ≡ 47 → ⊥) → Content q i n f
+      content_more : Later → (j : ℕ) → text_at t q ≡ Ok j → (byte_at t (j + 1) ≡ 47 → ⊥) → Content q i n f
       content_more rest j text other =
           let child_role_lem = child_role role (name_at t (j + 1)) in
           let is = sym (content_child whole' role t readers.onward q j (whole' child_role_lem j) text other refl) ∙ told in
@@ -96,15 +95,15 @@ module _ {s t : List ℕ} {d : ℕ} (p : Part s t d) where
     content_by_lem (suc fuel) q i e n f room told bound = by_text (content_by_lem fuel) (text_at t q) refl
       where
         by_test : ((q i : ℕ) → q ≡ d + i → (n : ℕ) (f : Forest) → n + 1 < d + length s → content_by whole' role t q ≡ read n f → n < q + fuel → Content q i n f)
-            → (j : ℕ) → text_at t q ≡ To j → (b : Bool) → eqb (byte_at t (j + 1)) 47 ≡ b → Content q i n f
+            → (j : ℕ) → text_at t q ≡ Ok j → (b : Bool) → eqb (byte_at t (j + 1)) 47 ≡ b → Content q i n f
         by_test rest j text true b = content_last q i e n f room told j text (eqb-true _ 47 b)
         by_test rest j text false b =
             content_more q i e n f room told (λ q' i' on e' f' told'. rest q' i' e' n f' room told' (omega arith)) j text (eqb-false _ 47 b)
 
         by_text : ((q i : ℕ) → q ≡ d + i → (n : ℕ) (f : Forest) → n + 1 < d + length s → content_by whole' role t q ≡ read n f → n < q + fuel → Content q i n f)
             → (r : Reach) → text_at t q ≡ r → Content q i n f
-        by_text rest (To j) text = by_test rest j text (eqb (byte_at t (j + 1)) 47) refl
-        by_text rest (Broken k) text =
+        by_text rest (Ok j) text = by_test rest j text (eqb (byte_at t (j + 1)) 47) refl
+        by_text rest (Err k) text =
             let is = content_broken whole' role t readers.onward q k text in
             absurd (let z : ◌≡◌ {A = ℕ} 0 1 = cc in omega arith)
 
@@ -124,10 +123,10 @@ module _ {s t : List ℕ} {d : ℕ} (p : Part s t d) where
             under = rw forest at (whole_under (Kept p (suc q)) role q g inner);
           }
 
-      group_in : (tag : Tag) → start_at t q ≡ tag → group_at whole' role t q tag ≡ read n f → Same p (group_at part role s i (start_at s i)) q n f
-      group_in (Open end inside) is told =
+      group_in : (tag : Result Tag ℕ) → start_at t q ≡ tag → group_at whole' role t q tag ≡ read n f → Same p (group_at part role s i (start_at s i)) q n f
+      group_in (Ok (Open end inside)) is told =
           let first = open_forward t q end inside is in
-          let start : start_at s i ≡ Open (end - d) (inside - d) = tag_in p role q i n f e sign room sound ∙ ap (lower_tag d) is in
+          let start : start_at s i ≡ Ok (Open (end - d) (inside - d)) = tag_in p role q i n f e sign room sound ∙ ap (lower_tag d) is in
           let a = went (content_by whole' role t inside) (λ e f. on_reached (end_at t q e) (λ n. read n (whole role q f))) n f told in
           let x = reached (end_at t q a.mid) (λ n. read n (whole role q a.part)) n f a.then in
           let same : x.mid ≡ n = (let then = x.then in cc) in
@@ -141,11 +140,11 @@ module _ {s t : List ℕ} {d : ℕ} (p : Part s t d) where
           ∙ ap (λ (r : Parsed). on_read r (λ e f. on_reached (end_at s i e) (λ n. read n (whole role i f)))) content.0
           ∙ ap (λ (r : Reach). on_reached r (λ n. read n (whole role i (lowered d a.part)))) end_tag)
           x.then
-      group_in (Empty end next) is told =
-          let start : start_at s i ≡ Empty (end - d) (next - d) = tag_in p role q i n f e sign room sound ∙ ap (lower_tag d) is in
+      group_in (Ok (Empty end next)) is told =
+          let start : start_at s i ≡ Ok (Empty (end - d) (next - d)) = tag_in p role q i n f e sign room sound ∙ ap (lower_tag d) is in
           whole_same (group_at part role s i (start_at s i)) next none (every_none (Kept p (suc q)))
           (ap (group_at part role s i) start ∙ ap (λ (g : Forest). read (next - d) (whole role i g)) (sym (lowered_none d))) told
-      group_in (Faulty k) is told = absurd (let z : ◌≡◌ {A = ℕ} 0 1 = cc in omega arith)
+      group_in (Err k) is told = absurd (let z : ◌≡◌ {A = ℕ} 0 1 = cc in omega arith)
 
   -- ---- an element
 

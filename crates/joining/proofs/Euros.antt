@@ -12,10 +12,9 @@ use Rattle.wire.specs.Field.{text, same}
 use Rattle.letters.specs.Places.{byte_at}
 use Rattle.letters.specs.Characters.{single}
 use Rattle.letters.specs.References.{reference_at}
-use Rattle.letters.specs.declared.Reach.TheVariants.{To, Broken}
+use Rattle.std.specs.Prelude.{Ok, Err, Option, Some, None}
 use Rattle.letters.specs.declared.Turn.TheVariants.{On, Breaks}
 use Rattle.letters.specs.declared.Reference.{Reference}
-use Rattle.letters.specs.declared.Reference.TheVariants.{Stands, Nothing}
 use Rattle.letters.proofs.References.{reference_forward}
 use Rattle.letters.proofs.Characters.{width_first}
 use Rattle.tags.specs.Attributes.{after_reference, value_turn, value_at, is_quote, quote_at, attribute_at, some_attribute, referring, spells, in_euros, euros, attributes_at}
@@ -43,7 +42,7 @@ Letters (c ∷ cs) = (60 < c) × (single c ≡ true) × Letters cs
 
 module _ {s t : List ℕ} {d : ℕ} (p : Part s t d) (quote : ℕ) (is : (quote ≡ 34) ⊎ (quote ≡ 39)) where
   abbrev Spelled : List ℕ → Type 0
-  Spelled cs = (q i n : ℕ) → Letters cs → q ≡ d + i → value_at quote t q ≡ To n → n < d + length s → spells cs quote t q ≡ spells cs quote s i
+  Spelled cs = (q i n : ℕ) → Letters cs → q ≡ d + i → value_at quote t q ≡ Ok n → n < d + length s → spells cs quote t q ≡ spells cs quote s i
 
   spells_in : (cs : List ℕ) → Spelled cs
   unfolding spells Letters
@@ -63,22 +62,22 @@ module _ {s t : List ℕ} {d : ℕ} (p : Part s t d) (quote : ℕ) (is : (quote 
       sign k = value_reference quote t q (unquoted (byte_at t q) (λ z. omega arith) (λ z. omega arith)) (λ z. omega arith) k
 
       -- where the whole has no reference, the part has none
-      none : reference_at t q ≡ Nothing → (r : Reference) → reference_at s i ≡ r → r ≡ Nothing
-      none other (Stands e next) told' =
-          let at_sign = byte ∙ (reference_forward s i e next told').2 in
-          let broken : value_at quote t q ≡ Broken q = value_turn_lem quote t q (Breaks q) (sym (sign at_sign) ∙ (rw other)) in
+      none : reference_at t q ≡ None → (r : Option Reference) → reference_at s i ≡ r → r ≡ None
+      none other (Some r) told' =
+          let at_sign = byte ∙ (reference_forward s i r.character r.next told').2 in
+          let broken : value_at quote t q ≡ Err q = value_turn_lem quote t q (Breaks q) (sym (sign at_sign) ∙ (rw other)) in
           absurd (let z : ◌≡◌ {A = ℕ} 0 1 = cc in omega arith)
-      none other Nothing told' = refl
+      none other None told' = refl
 
-      by_reference : Spelled cs → (r : Reference) → reference_at t q ≡ r
+      by_reference : Spelled cs → (r : Option Reference) → reference_at t q ≡ r
           → referring r c (λ next. spells cs quote t next) ≡ referring (reference_at s i) c (λ next. spells cs quote s next)
-      by_reference rest (Stands k next) r =
-          let ahead = reference_forward t q k next r in
-          let later : value_at quote t next ≡ To n = sym (value_turn_lem quote t q (On next) (sym (sign ahead.2) ∙ (rw r))) ∙ told in
-          let inside = value_forward quote t next n later in
-          rw (reference_in p q i k next e (omega arith) (omega arith) r)
-          (ap (λ (b : Bool). cond (eqb k c) b false) (rest next (next - d) n letters.2 (omega arith) later room))
-      by_reference rest Nothing r = rw (none r (reference_at s i) refl)
+      by_reference rest (Some k) r =
+          let ahead = reference_forward t q k.character k.next r in
+          let later : value_at quote t k.next ≡ Ok n = sym (value_turn_lem quote t q (On k.next) (sym (sign ahead.2) ∙ (rw r))) ∙ told in
+          let inside = value_forward quote t k.next n later in
+          rw (reference_in p q i k.character k.next e (omega arith) (omega arith) r)
+          (ap (λ (b : Bool). cond (eqb k.character c) b false) (rest k.next (k.next - d) n letters.2 (omega arith) later room))
+      by_reference rest None r = rw (none r (reference_at s i) refl)
 
       by_letter : Spelled cs → (b : Bool) → eqb (byte_at t q) c ≡ b
           → cond b (spells cs quote t (q + 1)) (referring (reference_at t q) c (λ next. spells cs quote t next))
@@ -99,7 +98,7 @@ unfolding Letters
 eur = (omega arith, refl, (omega arith, refl, (omega arith, refl, tt)))
 
 module _ {s t : List ℕ} {d : ℕ} (p : Part s t d) where
-  in_euros_lem : (q i n : ℕ) → q ≡ d + i → i ≤ length s → attribute_at t q ≡ To n → n < d + length s → in_euros t q ≡ in_euros s i
+  in_euros_lem : (q i n : ℕ) → q ≡ d + i → i ≤ length s → attribute_at t q ≡ Ok n → n < d + length s → in_euros t q ≡ in_euros s i
   unfolding in_euros
   in_euros_lem q i n e h told room =
       let was = attribute_read t q n told in
@@ -108,7 +107,7 @@ module _ {s t : List ℕ} {d : ℕ} (p : Part s t d) where
       (spells_in p (byte_at t (quote_at t q)) (quote_is _ was.quoted) (text "EUR") (quote_at t q + 1) (quote_at s i + 1) n eur (omega arith) was.value room
       ∙ ap (λ (b : ℕ). spells (text "EUR") b s (quote_at s i + 1)) (quote_byte p q i n e h told room))
 
-  pub euros_in : (from from' end : ℕ) → from ≡ d + from' → attributes_at t from ≡ To end → end < d + length s → euros t from end ≡ euros s from' (end - d)
+  pub euros_in : (from from' end : ℕ) → from ≡ d + from' → attributes_at t from ≡ Ok end → end < d + length s → euros t from end ≡ euros s from' (end - d)
   unfolding some_attribute
   euros_in from from' end e told room =
       let was = attributes_ended t from end told in

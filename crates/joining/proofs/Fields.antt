@@ -1,17 +1,17 @@
 -- A field's element in a part of a text is read as it is in the whole, where it ends inside the part. Assumes nothing.
 use mathlib.Core.Path.{◌≡◌, sym, ap, ap₂, ◌∙◌}
-use mathlib.Core.Bool.{Bool, true, false, not, ◌||◌, false≢true}
+use mathlib.Core.Bool.{Bool, true, not, ◌||◌, false≢true}
 use mathlib.Core.List.{List, []}
 use Prim.Native.Nat.{ℕ, suc, ◌+◌, ◌-◌, ◌≤◌, ◌<◌}
 use native.Mathlib.Omega.{arith}
 use lib.ListN.{length}
 use Rattle.letters.specs.Places.{byte_at}
-use Rattle.letters.specs.declared.Reach.TheVariants.{To}
+use Rattle.std.specs.Prelude.{Ok, Result, Err}
 use Rattle.letters.specs.declared.Turn.TheVariants.{Ends}
 use Rattle.tags.specs.Names.{name_start, name_byte, name_end}
 use Rattle.tags.specs.Tags.{start_at, end_at}
 use Rattle.tags.specs.declared.Tag.{Tag}
-use Rattle.tags.specs.declared.Tag.TheVariants.{Open, Empty, Faulty}
+use Rattle.tags.specs.declared.Tag.TheVariants.{Open, Empty}
 use Rattle.tags.proofs.Tags.{open_forward, end_forward}
 use Rattle.prose.specs.Prose.{text_at, said_at}
 use Rattle.prose.proofs.Turns.{text_forward, text_sign}
@@ -34,8 +34,8 @@ unmarked : (b : ℕ) → name_start b ≡ true → b ≡ 33 → ⊥
 unfolding name_start
 unmarked b e is = false≢true (rw is at e)
 
-filled_as : (s : List ℕ) (role i end inside mid m : ℕ) → start_at s i ≡ Open end inside → in_euros role s (name_end s (i + 1)) end ≡ true → text_at s inside ≡ To mid
-    → fits role (said_at s inside) ≡ true → end_at s i mid ≡ To m → field_at role s i (start_at s i) ≡ read m (tree role inside none none)
+filled_as : (s : List ℕ) (role i end inside mid m : ℕ) → start_at s i ≡ Ok (Open end inside) → in_euros role s (name_end s (i + 1)) end ≡ true → text_at s inside ≡ Ok mid
+    → fits role (said_at s inside) ≡ true → end_at s i mid ≡ Ok m → field_at role s i (start_at s i) ≡ read m (tree role inside none none)
 unfolding field_at filled_field
 filled_as s role i end inside mid m a b c x y = rw (a, b, c, x, y)
 
@@ -53,7 +53,7 @@ module _ {s t : List ℕ} {d : ℕ} (p : Part s t d) where
   pub kept_later : (a b : ℕ) → a ≤ b → (f : Forest) → Every (Kept b) f → Every (Kept a) f
   kept_later a b h f one = every_more (Kept b) (Kept a) (λ k all. (omega (arith, all.0), all.1, all.2)) f one
 
-  text_kept : (q n : ℕ) → d ≤ q → text_at t q ≡ To n → n < d + length s → Kept q q
+  text_kept : (q n : ℕ) → d ≤ q → text_at t q ≡ Ok n → n < d + length s → Kept q q
   text_kept q n h told room = (omega arith, omega (arith, text_forward t q n told), said_in p q (q - d) n (omega arith) told room)
 
   sign_kept : (q : ℕ) → d ≤ q → byte_at t q ≡ 60 → name_start (byte_at t (q + 1)) ≡ true → q < d + length s → Kept q q
@@ -104,11 +104,11 @@ module _ {s t : List ℕ} {d : ℕ} (p : Part s t d) where
             under = rw forest at (leaf_under (Kept (suc q)) role place);
           }
 
-      pub field_in : (tag : Tag) → start_at t q ≡ tag → field_at role t q tag ≡ read n f → Same (field_at role s i (start_at s i)) q n f
+      pub field_in : (tag : Result Tag ℕ) → start_at t q ≡ tag → field_at role t q tag ≡ read n f → Same (field_at role s i (start_at s i)) q n f
       unfolding field_at filled_field
-      field_in (Open end inside) is told =
+      field_in (Ok (Open end inside)) is told =
           let first = open_forward t q end inside is in
-          let start : start_at s i ≡ Open (end - d) (inside - d) = tag_in ∙ ap (lower_tag d) is in
+          let start : start_at s i ≡ Ok (Open (end - d) (inside - d)) = tag_in ∙ ap (lower_tag d) is in
           let ended : end ≡ was.end = rw is at end_is in
           let euros_true = euros_held end ended (held_true (in_euros role t (name_end t (q + 1)) end) end _ n f told) in
           let a = held (in_euros role t (name_end t (q + 1)) end) end _ n f told in
@@ -125,12 +125,12 @@ module _ {s t : List ℕ} {d : ℕ} (p : Part s t d) where
           let end_tag = end_in_lem p q i b.mid (b.mid - d) x.mid e (omega arith) (omega arith) x.first (omega arith) in
           leaf_same (field_at role s i (start_at s i)) x.mid inside (inside - d) (omega arith) (omega arith) (text_kept inside b.mid (omega arith) b.first (omega arith))
           (filled_as s role i (end - d) (inside - d) (b.mid - d) (x.mid - d) start euros_true text (ap (fits role) (sym said) ∙ fits_true) end_tag) x.then
-      field_in (Empty end next) is told =
-          let start : start_at s i ≡ Empty (end - d) (next - d) = tag_in ∙ ap (lower_tag d) is in
+      field_in (Ok (Empty end next)) is told =
+          let start : start_at s i ≡ Ok (Empty (end - d) (next - d)) = tag_in ∙ ap (lower_tag d) is in
           let ended : end ≡ was.end = rw is at end_is in
           let euros_true = euros_held end ended (held_true (in_euros role t (name_end t (q + 1)) end) end _ n f told) in
           let a = held (in_euros role t (name_end t (q + 1)) end) end _ n f told in
           let fits_true = held_true (fits role []) end _ n f a in
           let b = held (fits role []) end _ n f a in
           leaf_same (field_at role s i (start_at s i)) next q i e (omega arith) own_kept (rw (start, euros_true, fits_true)) b
-      field_in (Faulty k) is told = absurd (let z : ◌≡◌ {A = ℕ} 0 1 = cc in omega arith)
+      field_in (Err k) is told = absurd (let z : ◌≡◌ {A = ℕ} 0 1 = cc in omega arith)

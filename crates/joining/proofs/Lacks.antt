@@ -1,9 +1,8 @@
 -- Forests in which nothing lacks: told by the first lack, and lowered. Assumes nothing.
 use mathlib.Core.Path.{◌≡◌, refl, ap, ◌∙◌}
 use mathlib.Core.Bool.{Bool, true, false, cond}
-use Prim.Native.Nat.{ℕ, ◌-◌, ◌≤◌, ◌<◌, min}
+use Prim.Native.Nat.{ℕ, ◌≤◌, ◌<◌, min}
 use native.Mathlib.Omega.{arith}
-use Rattle.paths.specs.Roles as roles
 use Rattle.paths.specs.Table.{lacks}
 use Rattle.elements.specs.Forest.{Forest, none, tree, count_of}
 use Rattle.elements.specs.Questions.{first_lack}

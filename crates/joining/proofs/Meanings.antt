@@ -2,7 +2,7 @@
 use mathlib.Core.Path.{◌≡◌, refl, sym, ap, ap₂, ◌∙◌}
 use mathlib.Core.Bool.{Bool, true, false, cond, not, ◌&&◌}
 use mathlib.Core.List.{List, [], ◌∷◌, ◌++◌, map, map-append}
-use Prim.Native.Nat.{ℕ, ◌+◌, ◌-◌, ◌≤◌, ◌<◌}
+use Prim.Native.Nat.{ℕ, ◌-◌, ◌≤◌, ◌<◌}
 use native.Mathlib.Omega.{arith}
 use lib.Dec.{eqb}
 use lib.ListN.{length, length-append}
@@ -10,7 +10,7 @@ use borrow.Author.Tests.{ne_eqb}
 use Rattle.sheet.specs.Sheet.{Bulk}
 use Rattle.prose.specs.Prose.{said_at}
 use Rattle.paths.specs.Roles as roles
-use Rattle.records.specs.Records.{Places, there, header_of, message_of}
+use Rattle.records.specs.Records.{Places, header_of, message_of}
 use Rattle.elements.specs.Forest.{Forest, none, tree}
 use Rattle.elements.specs.Questions.{place_in, messages_in}
 use Rattle.reading.specs.Meaning.{places_in, bulk_in, bulks_in, countable, all_countable}

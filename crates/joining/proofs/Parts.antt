@@ -10,7 +10,7 @@ use lib.Seq.{get_or-drop, take-append-le, drop-append-le, drop-append-add, lengt
 use Rattle.wire.specs.Field.{part, same}
 use Rattle.letters.specs.Places.{byte_at, run, run_end, between, matches, expected}
 use Rattle.letters.specs.References.{stands}
-use Rattle.letters.specs.declared.Reach.TheVariants.{To, Broken}
+use Rattle.std.specs.Prelude.{Ok, Err}
 use Rattle.letters.proofs.Walks.{match_forward}
 use Rattle.letters.proofs.References.{stands_there}
 
@@ -27,15 +27,15 @@ run_front f (x ∷ xs) ys h = by_test (run_front f xs ys) (f x) h
     by_test rest true h = ap suc (rest (omega arith))
     by_test rest false h = refl
 
-match_front : (word xs ys : List ℕ) (q i n : ℕ) → matches word (xs ++ ys) q ≡ To n → n ≤ q + length xs → matches word xs i ≡ To (i + length word)
+match_front : (word xs ys : List ℕ) (q i n : ℕ) → matches word (xs ++ ys) q ≡ Ok n → n ≤ q + length xs → matches word xs i ≡ Ok (i + length word)
 unfolding matches
-match_front [] xs ys q i n e h = ap To (omega arith)
+match_front [] xs ys q i n e h = ap Ok (omega arith)
 match_front (b ∷ bs) [] ys q i n e h = absurd (omega (arith, match_forward (b ∷ bs) ys q n e))
 match_front (b ∷ bs) (x ∷ xs) ys q i n e h = by_test (match_front bs xs ys (q + 1) (i + 1) n) (eqb x b) e
   where
-    by_test : (matches bs (xs ++ ys) (q + 1) ≡ To n → n ≤ q + 1 + length xs → matches bs xs (i + 1) ≡ To (i + 1 + length bs)) → (t : Bool)
-        → cond t (matches bs (xs ++ ys) (q + 1)) (Broken q) ≡ To n → cond t (matches bs xs (i + 1)) (Broken i) ≡ To (i + suc (length bs))
-    by_test rest true told = rest told (omega arith) ∙ ap To (omega arith)
+    by_test : (matches bs (xs ++ ys) (q + 1) ≡ Ok n → n ≤ q + 1 + length xs → matches bs xs (i + 1) ≡ Ok (i + 1 + length bs)) → (t : Bool)
+        → cond t (matches bs (xs ++ ys) (q + 1)) (Err q) ≡ Ok n → cond t (matches bs xs (i + 1)) (Err i) ≡ Ok (i + suc (length bs))
+    by_test rest true told = rest told (omega arith) ∙ ap Ok (omega arith)
     by_test rest false told = absurd (let z : ◌≡◌ {A = ℕ} 0 1 = cc in omega arith)
 
 -- ---- a part
@@ -98,7 +98,7 @@ module _ {s t : List ℕ} {d : ℕ} (p : Part s t d) where
   pub between_in : (q i m j : ℕ) → q ≡ d + i → m ≡ d + j → i ≤ j → j ≤ length s → between t q m ≡ between s i j
   between_in q i m j e f low high = let width : m - q ≡ j - i = omega arith in rw width (part_in_lem q i (j - i) e (omega arith))
 
-  pub word_in : (word : List ℕ) (q i n : ℕ) → q ≡ d + i → i ≤ length s → expected t word q ≡ To n → n ≤ d + length s → expected s word i ≡ To (i + length word)
+  pub word_in : (word : List ℕ) (q i n : ℕ) → q ≡ d + i → i ≤ length s → expected t word q ≡ Ok n → n ≤ d + length s → expected s word i ≡ Ok (i + length word)
   word_in word q i n e h told k =
       match_front word (drop i s) p.behind q i n (rw (← (from_there q i e h)) told) (omega (arith, length-drop i s))
 

@@ -2,16 +2,15 @@
 use mathlib.Core.Path.{◌≡◌, refl, sym, ap, ap₂, ◌∙◌}
 use mathlib.Core.Bool.{Bool, true, false, cond, ◌&&◌}
 use mathlib.Core.List.{List, [], ◌∷◌}
-use Prim.Native.Nat.{ℕ, ◌+◌, ◌-◌, ◌≤◌, ◌<◌}
+use Prim.Native.Nat.{ℕ, ◌+◌, ◌≤◌, ◌<◌}
 use native.Mathlib.Omega.{arith}
 use lib.Dec.{eqb, ltb}
 use lib.ListN.{length, drop}
 use borrow.Author.Tests.{ltb-true}
 use Rattle.wire.specs.Field.{text}
-use Rattle.letters.specs.Places.{byte_at, run_end, expected, on_reach}
+use Rattle.letters.specs.Places.{byte_at, run_end, expected, on_reach, Reach}
 use Rattle.letters.specs.References.{stands}
-use Rattle.letters.specs.declared.Reach.{Reach}
-use Rattle.letters.specs.declared.Reach.TheVariants.{To, Broken}
+use Rattle.std.specs.Prelude.{Ok, Err}
 use Rattle.letters.proofs.Walks.{went, match_forward}
 use Rattle.letters.proofs.Characters.{front_true}
 use Rattle.tags.specs.Names.{is_space, space_end}
@@ -28,10 +27,10 @@ module _ {s t : List ℕ} (p : Part s t 0) where
   run_front : (f : ℕ → Bool) (q : ℕ) → run_end f t q ≤ length s → run_end f t q ≡ run_end f s q
   run_front f q h = omega (arith, run_in p f q q (omega arith) (omega arith) (omega arith))
 
-  word_front : (word : List ℕ) (q n : ℕ) → expected t word q ≡ To n → n ≤ length s → expected s word q ≡ To n
+  word_front : (word : List ℕ) (q n : ℕ) → expected t word q ≡ Ok n → n ≤ length s → expected s word q ≡ Ok n
   word_front word q n told room =
       let ends = match_forward word (drop q t) q n told in
-      word_in p word q q n (omega arith) (omega arith) told (omega arith) ∙ ap To (sym ends)
+      word_in p word q q n (omega arith) (omega arith) told (omega arith) ∙ ap Ok (sym ends)
 
   stands_front : (word : List ℕ) (q : ℕ) → q + length word ≤ length s → stands t q word ≡ stands s q word
   stands_front word q h = stands_in p word q q (omega arith) h
@@ -85,12 +84,12 @@ module _ {s t : List ℕ} (p : Part s t 0) where
 
   -- ---- settings
 
-  quoted_front : (k q n : ℕ) → quoted k t q ≡ To n → n ≤ length s → (quoted k s q ≡ To n) × (q < n)
+  quoted_front : (k q n : ℕ) → quoted k t q ≡ Ok n → n ≤ length s → (quoted k s q ≡ Ok n) × (q < n)
   quoted_front k q n told room =
       by_test (is_quote (byte_at t q)) refl (ltb (q + 1) (value_end k t (q + 1)) && eqb (byte_at t (value_end k t (q + 1))) (byte_at t q)) refl told
     where
       by_test : (a : Bool) → is_quote (byte_at t q) ≡ a → (b : Bool) → (ltb (q + 1) (value_end k t (q + 1)) && eqb (byte_at t (value_end k t (q + 1))) (byte_at t q)) ≡ b
-          → cond a (cond b (To (value_end k t (q + 1) + 1)) (Broken (q + 1))) (Broken q) ≡ To n → (quoted k s q ≡ To n) × (q < n)
+          → cond a (cond b (Ok (value_end k t (q + 1) + 1)) (Err (q + 1))) (Err q) ≡ Ok n → (quoted k s q ≡ Ok n) × (q < n)
       by_test true a true b told =
           let ends : value_end k t (q + 1) + 1 ≡ n = cc in
           let some = ltb-true (q + 1) (value_end k t (q + 1)) (front_true _ _ b) in
@@ -101,10 +100,10 @@ module _ {s t : List ℕ} (p : Part s t 0) where
       by_test true a false b told = absurd (let z : ◌≡◌ {A = ℕ} 0 1 = cc in omega arith)
       by_test false a b e told = absurd (let z : ◌≡◌ {A = ℕ} 0 1 = cc in omega arith)
 
-  equated_front : (k q n : ℕ) → equated k t q ≡ To n → n ≤ length s → (equated k s q ≡ To n) × (q < n)
+  equated_front : (k q n : ℕ) → equated k t q ≡ Ok n → n ≤ length s → (equated k s q ≡ Ok n) × (q < n)
   equated_front k q n told room = by_test (eqb (byte_at t (space_end t q)) 61) refl told
     where
-      by_test : (a : Bool) → eqb (byte_at t (space_end t q)) 61 ≡ a → cond a (quoted k t (space_end t (space_end t q + 1))) (Broken (space_end t q)) ≡ To n → (equated k s q ≡ To n) × (q < n)
+      by_test : (a : Bool) → eqb (byte_at t (space_end t q)) 61 ≡ a → cond a (quoted k t (space_end t (space_end t q + 1))) (Err (space_end t q)) ≡ Ok n → (equated k s q ≡ Ok n) × (q < n)
       by_test true a told =
           let value = quoted_front k (space_end t (space_end t q + 1)) n told room in
           let before = value.1 in
@@ -114,12 +113,12 @@ module _ {s t : List ℕ} (p : Part s t 0) where
           (rw (← two, ← one, ← sign, a) value.0, omega arith)
       by_test false a told = absurd (let z : ◌≡◌ {A = ℕ} 0 1 = cc in omega arith)
 
-  setting_front : (k q n : ℕ) → setting_at k t q ≡ To n → n ≤ length s → (setting_at k s q ≡ To n) × (space_end t q < n)
+  setting_front : (k q n : ℕ) → setting_at k t q ≡ Ok n → n ≤ length s → (setting_at k s q ≡ Ok n) × (space_end t q < n)
   unfolding setting_at
   setting_front k q n told room = by_test (is_space (byte_at t q)) refl told
     where
-      by_test : (a : Bool) → is_space (byte_at t q) ≡ a → cond a (on_reach (expected t (setting_name k) (space_end t q)) (λ n. equated k t n)) (Broken q) ≡ To n
-          → (cond (is_space (byte_at s q)) (on_reach (expected s (setting_name k) (space_end s q)) (λ n. equated k s n)) (Broken q) ≡ To n) × (space_end t q < n)
+      by_test : (a : Bool) → is_space (byte_at t q) ≡ a → cond a (on_reach (expected t (setting_name k) (space_end t q)) (λ n. equated k t n)) (Err q) ≡ Ok n
+          → (cond (is_space (byte_at s q)) (on_reach (expected s (setting_name k) (space_end s q)) (λ n. equated k s n)) (Err q) ≡ Ok n) × (space_end t q < n)
       by_test true a told =
           let w = went (expected t (setting_name k) (space_end t q)) (λ n. equated k t n) n told in
           let named = match_forward (setting_name k) (drop (space_end t q) t) (space_end t q) w.mid w.first in
@@ -132,10 +131,10 @@ module _ {s t : List ℕ} (p : Part s t 0) where
       by_test false a told = absurd (let z : ◌≡◌ {A = ℕ} 0 1 = cc in omega arith)
 
   -- one that may be missing; the spaces behind it end no earlier than those before it
-  maybe_front : (k letter q n : ℕ) → maybe_setting k letter t q ≡ To n → space_end t n < length s → (maybe_setting k letter s q ≡ To n) × (space_end t q ≤ space_end t n)
+  maybe_front : (k letter q n : ℕ) → maybe_setting k letter t q ≡ Ok n → space_end t n < length s → (maybe_setting k letter s q ≡ Ok n) × (space_end t q ≤ space_end t n)
   maybe_front k letter q n told room = by_test (eqb (byte_at t (space_end t q)) letter) refl told
     where
-      by_test : (a : Bool) → eqb (byte_at t (space_end t q)) letter ≡ a → cond a (setting_at k t q) (To q) ≡ To n → (maybe_setting k letter s q ≡ To n) × (space_end t q ≤ space_end t n)
+      by_test : (a : Bool) → eqb (byte_at t (space_end t q)) letter ≡ a → cond a (setting_at k t q) (Ok q) ≡ Ok n → (maybe_setting k letter s q ≡ Ok n) × (space_end t q ≤ space_end t n)
       by_test true a told =
           let setting = setting_front k q n told (omega arith) in
           let before = setting.1 in
@@ -147,11 +146,11 @@ module _ {s t : List ℕ} (p : Part s t 0) where
           let spaces : space_end t q ≡ space_end t n = ap (space_end t) same in
           let one = run_front is_space q (omega arith) in
           let sign = byte_front (space_end t q) (omega arith) in
-          (rw (← one, ← sign, a) (ap To same), omega arith)
+          (rw (← one, ← sign, a) (ap Ok same), omega arith)
 
   -- ---- the declaration, and all of it
 
-  declaration_front : (q n : ℕ) → declaration_at t q ≡ To n → n ≤ length s → (declaration_at s q ≡ To n) × (q ≤ n)
+  declaration_front : (q n : ℕ) → declaration_at t q ≡ Ok n → n ≤ length s → (declaration_at s q ≡ Ok n) × (q ≤ n)
   unfolding declaration_at
   declaration_front q n told room =
       let x = went (setting_at 0 t q) (λ a. on_reach (maybe_setting 1 101 t a) (λ b. on_reach (maybe_setting 2 115 t b) (λ c. expected t (text "?>") (space_end t c)))) n told in
@@ -169,24 +168,24 @@ module _ {s t : List ℕ} (p : Part s t 0) where
         omega arith,
       )
     where
-      declared : (a b c : ℕ) → setting_at 0 s q ≡ To a → maybe_setting 1 101 s a ≡ To b → maybe_setting 2 115 s b ≡ To c → expected s (text "?>") (space_end s c) ≡ To n
-          → on_reach (setting_at 0 s q) (λ a. on_reach (maybe_setting 1 101 s a) (λ b. on_reach (maybe_setting 2 115 s b) (λ c. expected s (text "?>") (space_end s c)))) ≡ To n
+      declared : (a b c : ℕ) → setting_at 0 s q ≡ Ok a → maybe_setting 1 101 s a ≡ Ok b → maybe_setting 2 115 s b ≡ Ok c → expected s (text "?>") (space_end s c) ≡ Ok n
+          → on_reach (setting_at 0 s q) (λ a. on_reach (maybe_setting 1 101 s a) (λ b. on_reach (maybe_setting 2 115 s b) (λ c. expected s (text "?>") (space_end s c)))) ≡ Ok n
       declared a b c one two three four = rw (one, two, three, four)
 
   abbrev opening : List ℕ → ℕ → Reach
-  opening u from = cond (stands u from (text "<?xml")) (declaration_at u (from + 5)) (To from)
+  opening u from = cond (stands u from (text "<?xml")) (declaration_at u (from + 5)) (Ok from)
 
-  opening_front : (from n : ℕ) → opening t from ≡ To n → n ≤ length s → (opening s from ≡ To n) × (from ≤ n)
+  opening_front : (from n : ℕ) → opening t from ≡ Ok n → n ≤ length s → (opening s from ≡ Ok n) × (from ≤ n)
   opening_front from n told room = by_test (stands t from (text "<?xml")) refl told
     where
-      by_test : (b : Bool) → stands t from (text "<?xml") ≡ b → cond b (declaration_at t (from + 5)) (To from) ≡ To n → (opening s from ≡ To n) × (from ≤ n)
+      by_test : (b : Bool) → stands t from (text "<?xml") ≡ b → cond b (declaration_at t (from + 5)) (Ok from) ≡ Ok n → (opening s from ≡ Ok n) × (from ≤ n)
       by_test true b told =
           let declared = declaration_front (from + 5) n told room in
           let low = declared.1 in
           (rw (← (stands_front (text "<?xml") from (omega arith)), b) declared.0, omega arith)
       by_test false b told =
           let same : from ≡ n = cc in
-          (rw (none_front (text "<?xml") from (omega arith) b) (ap To same), omega arith)
+          (rw (none_front (text "<?xml") from (omega arith) b) (ap Ok same), omega arith)
 
   mark_front : after_mark t ≤ length s → after_mark s ≡ after_mark t
   mark_front room = by_test (stands t 0 mark) refl room
@@ -195,14 +194,14 @@ module _ {s t : List ℕ} (p : Part s t 0) where
       by_test true b room = rw (← (stands_front mark 0 (omega arith)), b)
       by_test false b room = rw (none_front mark 0 (omega arith) b)
 
-  pub prolog_front : (n : ℕ) → prolog t ≡ To n → n ≤ length s → prolog s ≡ To n
+  pub prolog_front : (n : ℕ) → prolog t ≡ Ok n → n ≤ length s → prolog s ≡ Ok n
   unfolding prolog
   prolog_front n told room =
-      let w = went (opening t (after_mark t)) (λ n. To (space_end t n)) n told in
+      let w = went (opening t (after_mark t)) (λ n. Ok (space_end t n)) n told in
       let ends : space_end t w.mid ≡ n = (let then = w.then in cc) in
       let opened = opening_front (after_mark t) w.mid w.first (omega arith) in
       let low = opened.1 in
       let marked = mark_front (omega arith) in
-      ap (λ (k : ℕ). on_reach (opening s k) (λ n. To (space_end s n))) marked
-      ∙ ap (λ (r : Reach). on_reach r (λ n. To (space_end s n))) opened.0
-      ∙ ap To (sym (run_front is_space w.mid (omega arith)) ∙ ends)
+      ap (λ (k : ℕ). on_reach (opening s k) (λ n. Ok (space_end s n))) marked
+      ∙ ap (λ (r : Reach). on_reach r (λ n. Ok (space_end s n))) opened.0
+      ∙ ap Ok (sym (run_front is_space w.mid (omega arith)) ∙ ends)

@@ -6,11 +6,10 @@ use Prim.Native.Nat.{ℕ, suc, ◌+◌, ◌-◌, ◌<◌}
 use native.Mathlib.Omega.{arith}
 use lib.Dec.{eqb}
 use lib.ListN.{length}
-use Rattle.letters.specs.Places.{byte_at, going, walk}
+use Rattle.letters.specs.Places.{byte_at, going, walk, Reach}
 use Rattle.letters.specs.Characters.{width_at}
 use Rattle.letters.specs.References.{stands, reference_at}
-use Rattle.letters.specs.declared.Reach.{Reach}
-use Rattle.letters.specs.declared.Reach.TheVariants.{To, Broken}
+use Rattle.std.specs.Prelude.{Ok, Err}
 use Rattle.letters.specs.declared.Turn.TheVariants.{Ends, Breaks}
 use Rattle.tags.specs.Attributes.{after_reference, after_character}
 use Rattle.prose.specs.Prose.{section_start, section_end, section_turn, section_at, text_turn, text_at}
@@ -29,7 +28,7 @@ module _ {s t : List ℕ} {d : ℕ} (p : Part s t d) where
       by_test true b inside = rw (← (stands_in p section_end q i e (omega arith)), b) (ap Ends (omega arith))
       by_test false b inside = rw (stands_not p section_end q i e (omega arith) b) (character_turn p q i e h inside)
 
-  pub section_in : (q i n : ℕ) → q ≡ d + i → section_at t q ≡ To n → n < d + length s → section_at s i ≡ To (n - d)
+  pub section_in : (q i n : ℕ) → q ≡ d + i → section_at t q ≡ Ok n → n < d + length s → section_at s i ≡ Ok (n - d)
   unfolding section_at walk
   section_in q i n e told room =
       walk_in (section_turn t) (section_turn s) d (length s) (λ k. Unit {0})
@@ -52,16 +51,16 @@ module _ {s t : List ℕ} {d : ℕ} (p : Part s t d) where
           → cond a (cond (stands s i section_start) (going (section_at s (i + 9))) (Ends i))
           (cond b (after_reference (reference_at s i) i) (cond (stands s i section_end) (Breaks i) (after_character (width_at s i) i)))
           ≡ lower_turn d (cond a (cond c (going r) (Ends q)) (cond b (after_reference (reference_at t q) q) (cond x (Breaks q) (after_character (width_at t q) q))))
-      by_test true b true k x l (To n) told inside =
+      by_test true b true k x l (Ok n) told inside =
           let ahead = section_forward t (q + 9) n told in
           rw (← (stands_in p section_start q i e (omega arith)), k, section_in (q + 9) (i + 9) n (omega arith) told inside)
-      by_test true b true k x l (Broken z) told inside = absurd inside
+      by_test true b true k x l (Err z) told inside = absurd inside
       by_test true b false k x l r told inside = rw (stands_not p section_start q i e (omega arith) k) (ap Ends (omega arith))
       by_test false true c k x l r told inside = reference_turn p q i e h inside
       by_test false false c k true l r told inside = absurd inside
       by_test false false c k false l r told inside = rw (stands_not p section_end q i e (omega arith) l) (character_turn p q i e h inside)
 
-  pub text_in_lem : (q i n : ℕ) → q ≡ d + i → text_at t q ≡ To n → n < d + length s → text_at s i ≡ To (n - d)
+  pub text_in_lem : (q i n : ℕ) → q ≡ d + i → text_at t q ≡ Ok n → n < d + length s → text_at s i ≡ Ok (n - d)
   unfolding text_at walk
   text_in_lem q i n e told room =
       walk_in (text_turn t) (text_turn s) d (length s) (λ k. Unit {0})

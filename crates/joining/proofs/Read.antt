@@ -2,11 +2,12 @@
 use mathlib.Core.Path.{◌≡◌, refl, sym, ap, ap₂, subst, ◌∙◌}
 use mathlib.Core.Bool.{Bool, true, false, cond, ◌&&◌}
 use mathlib.Core.List.{List}
-use Prim.Native.Nat.{ℕ, zero, suc, ◌-◌, ◌≤◌, ◌<◌}
+use Prim.Native.Nat.{ℕ, zero, suc, ◌≤◌, ◌<◌}
 use native.Mathlib.Omega.{arith}
 use lib.Dec.{leb, ltb}
 use lib.ListN.{length, length-take, length-drop}
 use borrow.Author.Tests.{le-leb, ltb-true, ltb-false, lt-ltb, le-ltb}
+use Rattle.std.specs.Prelude.{Ok, Err}
 use Rattle.sheet.specs.Sheet.{Bulk}
 use Rattle.sheet.specs.Written.{sheet_bytes}
 use Rattle.elements.specs.Forest.{Forest, none, tree}
@@ -16,7 +17,7 @@ use Rattle.elements.specs.Questions.{first_lack, messages_in}
 use Rattle.reading.specs.Text.{parsed}
 use Rattle.reading.specs.Meaning.{bulks_in, sheet_in, countable, all_countable, fits_in}
 use Rattle.reading.specs.Reading.{number_of, answer_of, reads}
-use Rattle.reading.specs.declared.Reading.TheVariants.{Made, Lack, Short}
+use Rattle.reading.specs.declared.Unread.TheVariants.{Lack, Short}
 use Rattle.reading.proofs.Sheets.{both}
 use Rattle.joining.specs.Lowered.{firsts, others, count, lowered}
 use Rattle.joining.specs.Cut.{cut_place, first_text, later_text, ReadsAs, PartsRead}
@@ -46,7 +47,7 @@ reads_enough s space n f told e =
     (ap (λ (p : Parsed). number_of (answer_of s (length space) p)) (sym told) ∙ e)
   where
     by_test : (a : Bool) → ltb (first_lack f (length s)) (length s) ≡ a → (b : Bool) → countable (length (bulks_in s f)) ≡ b → (c : Bool) → all_countable f ≡ c → (d : Bool)
-        → number_of (cond a (Lack (first_lack f (length s))) (cond ((b && c) && d) (Made (length (sheet_in s f))) Short)) ≡ 0 → Enough s f
+        → number_of (cond a (Err (Lack (first_lack f (length s)))) (cond ((b && c) && d) (Ok (length (sheet_in s f))) (Err Short))) ≡ 0 → Enough s f
     by_test true lack b few c counted d e = absurd (omega arith)
     by_test false lack true few true counted d e =
         record { complete = first_lackless (length s) f (length s) (whole_kept s n f told) (ltb-false (first_lack f (length s)) (length s) lack); bulks = few; messages = counted }

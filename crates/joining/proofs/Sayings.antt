@@ -7,15 +7,13 @@ use native.Mathlib.Omega.{arith}
 use lib.Dec.{eqb}
 use lib.ListN.{length}
 use borrow.Author.Tests.{eqb-true, eqb-false}
-use Rattle.letters.specs.Places.{byte_at, on_turn}
+use Rattle.letters.specs.Places.{byte_at, on_turn, Reach}
 use Rattle.letters.specs.Characters.{width_at, encoded}
 use Rattle.letters.specs.References.{stands, reference_at}
-use Rattle.letters.specs.declared.Reach.{Reach}
-use Rattle.letters.specs.declared.Reach.TheVariants.{To, Broken}
+use Rattle.std.specs.Prelude.{Ok, Err, Option, Some, None}
 use Rattle.letters.specs.declared.Turn.{Turn}
 use Rattle.letters.specs.declared.Turn.TheVariants.{On, Ends, Breaks}
 use Rattle.letters.specs.declared.Reference.{Reference}
-use Rattle.letters.specs.declared.Reference.TheVariants.{Stands, Nothing}
 use Rattle.letters.proofs.Walks.{walk_turn}
 use Rattle.letters.proofs.References.{reference_forward}
 use Rattle.tags.specs.Attributes.{after_character}
@@ -35,12 +33,12 @@ turn_of false s at = text_turn s at
 -- in a section, its rest and the text behind it
 record Sectioned (s : List ℕ) (end at : ℕ) : Type 0 where
   pub mid : ℕ
-  pub section : section_at s at ≡ To mid
-  pub behind : text_at s mid ≡ To end
+  pub section : section_at s at ≡ Ok mid
+  pub behind : text_at s mid ≡ Ok end
 
 abbrev Left : Bool → List ℕ → ℕ → ℕ → Type 0
 Left true s end at = Sectioned s end at
-Left false s end at = text_at s at ≡ To end
+Left false s end at = text_at s at ≡ Ok end
 
 module _ (s : List ℕ) (end : ℕ) where
   pub text_turn_lem : (at : ℕ) (r : Turn) → text_turn s at ≡ r → text_at s at ≡ on_turn r (λ next. text_at s next)
@@ -131,7 +129,7 @@ module _ {s t : List ℕ} {d : ℕ} (p : Part s t d) (end : ℕ) (room : end < d
         by_test true b =
             let was = section_turn_lem t end q (Ends (q + 3)) (rw b) in
             let mid : left.mid ≡ q + 3 = (let one = left.section in cc) in
-            let behind : text_at t (q + 3) ≡ To end = rw mid at left.behind in
+            let behind : text_at t (q + 3) ≡ Ok end = rw mid at left.behind in
             let small = left_before t end false (q + 3) behind in
             let low : i + 3 ≡ q + 3 - d = omega arith in
             turns (q + 3) (rw b) (rw (← (stands_in p section_end q i e (omega arith)), b, low)) (omega arith) behind
@@ -145,25 +143,25 @@ module _ {s t : List ℕ} {d : ℕ} (p : Part s t d) (end : ℕ) (room : end < d
         byte = byte_in p q i e (before false q i e left)
 
         by_section : eqb (byte_at t q) 60 ≡ true → stands t q section_start ≡ true → (r : Reach) → section_at t (q + 9) ≡ r → Step false q i
-        by_section a b (To m) told =
-            let behind : text_at t m ≡ To end = sym (text_turn_lem t end q (On m) (rw (a, b, told))) ∙ left in
+        by_section a b (Ok m) told =
+            let behind : text_at t m ≡ Ok end = sym (text_turn_lem t end q (On m) (rw (a, b, told))) ∙ left in
             let next : Left true t end (q + 9) = record { mid = m; section = told; behind = behind } in
             let small = left_before t end true (q + 9) next in
             let low : i + 9 ≡ q + 9 - d = omega arith in
             turns (q + 9) (rw (a, b)) (rw (← byte, a, ← (stands_in p section_start q i e (omega arith)), b, low)) (omega arith) next
-        by_section a b (Broken k) told = absurd (left_whole t end false q k left (rw (a, b, told)))
+        by_section a b (Err k) told = absurd (left_whole t end false q k left (rw (a, b, told)))
 
         by_start : eqb (byte_at t q) 60 ≡ true → (b : Bool) → stands t q section_start ≡ b → Step false q i
         by_start a true b = by_section a b (section_at t (q + 9)) refl
         by_start a false b = silent (rw (a, b)) (rw (← byte, a, stands_not p section_start q i e (omega arith) b))
 
-        by_reference : eqb (byte_at t q) 60 ≡ false → eqb (byte_at t q) 38 ≡ true → (r : Reference) → reference_at t q ≡ r → Step false q i
-        by_reference a b (Stands c n) told =
-            let ahead = reference_forward t q c n told in
-            let next = left_on t end false q n left (rw (a, b, told)) in
-            let small = left_before t end false n next in
-            other c n (rw (a, b, told)) (rw (← byte, a, b, reference_in p q i c n e (omega arith) (omega arith) told)) (omega arith) next
-        by_reference a b Nothing told = absurd (left_whole t end false q q left (rw (a, b, told)))
+        by_reference : eqb (byte_at t q) 60 ≡ false → eqb (byte_at t q) 38 ≡ true → (r : Option Reference) → reference_at t q ≡ r → Step false q i
+        by_reference a b (Some r) told =
+            let ahead = reference_forward t q r.character r.next told in
+            let next = left_on t end false q r.next left (rw (a, b, told)) in
+            let small = left_before t end false r.next next in
+            other r.character r.next (rw (a, b, told)) (rw (← byte, a, b, reference_in p q i r.character r.next e (omega arith) (omega arith) told)) (omega arith) next
+        by_reference a b None told = absurd (left_whole t end false q q left (rw (a, b, told)))
 
         by_end : eqb (byte_at t q) 60 ≡ false → eqb (byte_at t q) 38 ≡ false → (x : Bool) → stands t q section_end ≡ x → Step false q i
         by_end a b true x = absurd (left_whole t end false q q left (rw (a, b, x)))
@@ -198,7 +196,7 @@ module _ {s t : List ℕ} {d : ℕ} (p : Part s t d) (end : ℕ) (room : end < d
       by_step rest (turns n one two ahead next) = rw (one, two) (rest (not inside) n (n - d) (omega arith) next (omega arith) (omega arith))
 
 -- a text says what it says
-pub said_in : {s t : List ℕ} {d : ℕ} → Part s t d → (q i n : ℕ) → q ≡ d + i → text_at t q ≡ To n → n < d + length s → said_at t q ≡ said_at s i
+pub said_in : {s t : List ℕ} {d : ℕ} → Part s t d → (q i n : ℕ) → q ≡ d + i → text_at t q ≡ Ok n → n < d + length s → said_at t q ≡ said_at s i
 unfolding said_at
 said_in {s} {t} {d} p q i n e told room =
     let on = text_forward t q n told in

@@ -10,10 +10,9 @@ use borrow.Author.Tests.{eqb-true, eqb-false}
 use Rattle.letters.specs.Places.{byte_at, walk}
 use Rattle.letters.specs.Characters.{width_at}
 use Rattle.letters.specs.References.{reference_at}
-use Rattle.letters.specs.declared.Reach.TheVariants.{To, Broken}
+use Rattle.std.specs.Prelude.{Ok, Err, Option, Some, None}
 use Rattle.letters.specs.declared.Turn.TheVariants.{On, Ends, Breaks}
 use Rattle.letters.specs.declared.Reference.{Reference}
-use Rattle.letters.specs.declared.Reference.TheVariants.{Stands, Nothing}
 use Rattle.tags.specs.Names.{is_space, name_byte, name_end, name_at}
 use Rattle.tags.specs.Attributes.{after_reference, after_character, value_turn, value_at, is_quote, equals_at, quote_at, attribute_at}
 use Rattle.tags.proofs.Values.{value_on, value_forward, reference_unending, character_unending}
@@ -26,14 +25,14 @@ use Rattle.joining.proofs.Letters.{width_in, reference_in, Inside, lower_turn, w
 pub record Attribute (s : List ℕ) (at n : ℕ) : Type 0 where
   pub equals : byte_at s (equals_at s at) ≡ 61
   pub quoted : is_quote (byte_at s (quote_at s at)) ≡ true
-  pub value : value_at (byte_at s (quote_at s at)) s (quote_at s at + 1) ≡ To n
+  pub value : value_at (byte_at s (quote_at s at)) s (quote_at s at + 1) ≡ Ok n
 
-pub attribute_read : (s : List ℕ) (at n : ℕ) → attribute_at s at ≡ To n → Attribute s at n
+pub attribute_read : (s : List ℕ) (at n : ℕ) → attribute_at s at ≡ Ok n → Attribute s at n
 unfolding attribute_at
 attribute_read s at n e = by_test (eqb (byte_at s (equals_at s at)) 61) refl (is_quote (byte_at s (quote_at s at))) refl e
   where
     by_test : (a : Bool) → eqb (byte_at s (equals_at s at)) 61 ≡ a → (b : Bool) → is_quote (byte_at s (quote_at s at)) ≡ b
-        → cond a (cond b (value_at (byte_at s (quote_at s at)) s (quote_at s at + 1)) (Broken (quote_at s at))) (Broken (equals_at s at)) ≡ To n
+        → cond a (cond b (value_at (byte_at s (quote_at s at)) s (quote_at s at + 1)) (Err (quote_at s at))) (Err (equals_at s at)) ≡ Ok n
         → Attribute s at n
     by_test false p b q told = absurd (let z : ◌≡◌ {A = ℕ} 0 1 = cc in omega arith)
     by_test true p false q told = absurd (let z : ◌≡◌ {A = ℕ} 0 1 = cc in omega arith)
@@ -65,9 +64,9 @@ module _ {s t : List ℕ} {d : ℕ} (p : Part s t d) where
     pub reference_turn : Inside (d + length s) (after_reference (reference_at t q) q) → after_reference (reference_at s i) i ≡ lower_turn d (after_reference (reference_at t q) q)
     reference_turn = by_case (reference_at t q) refl
       where
-        by_case : (r : Reference) → reference_at t q ≡ r → Inside (d + length s) (after_reference r q) → after_reference (reference_at s i) i ≡ lower_turn d (after_reference r q)
-        by_case (Stands c n) is inside = rw (reference_in p q i c n e (omega arith) (omega arith) is)
-        by_case Nothing is inside = absurd inside
+        by_case : (r : Option Reference) → reference_at t q ≡ r → Inside (d + length s) (after_reference r q) → after_reference (reference_at s i) i ≡ lower_turn d (after_reference r q)
+        by_case (Some r) is inside = rw (reference_in p q i r.character r.next e (omega arith) (omega arith) is)
+        by_case None is inside = absurd inside
 
     pub character_turn : Inside (d + length s) (after_character (width_at t q) q) → after_character (width_at s i) i ≡ lower_turn d (after_character (width_at t q) q)
     character_turn = by_width (width_at t q) refl
@@ -98,7 +97,7 @@ module _ {s t : List ℕ} {d : ℕ} (p : Part s t d) where
         by_test false false true inside = reference_turn inside
         by_test false false false inside = character_turn inside
 
-  pub value_in : (quote q i n : ℕ) → q ≡ d + i → value_at quote t q ≡ To n → n < d + length s → value_at quote s i ≡ To (n - d)
+  pub value_in : (quote q i n : ℕ) → q ≡ d + i → value_at quote t q ≡ Ok n → n < d + length s → value_at quote s i ≡ Ok (n - d)
   unfolding value_at walk
   value_in quote q i n e told room =
       walk_in (value_turn quote t) (value_turn quote s) d (length s) (λ k. Unit {0})
@@ -112,7 +111,7 @@ module _ {s t : List ℕ} {d : ℕ} (p : Part s t d) where
 
   -- ---- an attribute
 
-  module _ (q i n : ℕ) (e : q ≡ d + i) (h : i ≤ length s) (told : attribute_at t q ≡ To n) (room : n < d + length s) where
+  module _ (q i n : ℕ) (e : q ≡ d + i) (h : i ≤ length s) (told : attribute_at t q ≡ Ok n) (room : n < d + length s) where
     abbrev whole : Attribute t q n
     whole = attribute_read t q n told
 
@@ -134,7 +133,7 @@ module _ {s t : List ℕ} {d : ℕ} (p : Part s t d) where
     pub quote_byte : byte_at t (quote_at t q) ≡ byte_at s (quote_at s i)
     quote_byte = byte_in p (quote_at t q) (quote_at s i) quote_in (omega (arith, after_quote, quote_in))
 
-    pub attribute_in : attribute_at s i ≡ To (n - d)
+    pub attribute_in : attribute_at s i ≡ Ok (n - d)
     attribute_in =
         let equal = byte_in p (equals_at t q) (equals_at s i) equals_in (omega (arith, after_quote, equals_in)) in
         sym (attribute_value s i (equals_at s i) refl (sym equal ∙ whole.equals) (quote_at s i) refl (ap is_quote (sym quote_byte) ∙ whole.quoted))

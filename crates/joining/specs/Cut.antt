@@ -1,5 +1,5 @@
 -- A text cut between two of its documents. Assumes nothing.
-use Rattle.std.specs.Prelude.{ℕ, ◌≤◌, ◌≡◌, List, length, take, drop}
+use Rattle.std.specs.Prelude.{ℕ, ◌≤◌, ◌≡◌, List, length, take, drop, Ok}
 use Rattle.std.proofs.lemmas.List.Edits.{sets}
 use Rattle.sheet.specs.Written.{sheet_bytes}
 use Rattle.elements.specs.Forest.{Forest}
@@ -7,7 +7,6 @@ use Rattle.elements.specs.Grammar.{read}
 use Rattle.reading.specs.Text.{parsed}
 use Rattle.reading.specs.Meaning.{bulks_in}
 use Rattle.reading.specs.Reading.{outcome, reads}
-use Rattle.reading.specs.declared.Reading.TheVariants.{Made}
 use Rattle.joining.specs.Lowered.{firsts, others, begins, lowered}
 
 -- of a text and its documents: the place at which the one behind the first k begins; the end of the text, where there is none
@@ -30,7 +29,7 @@ pub record CutInTwo (text : List ℕ) (f : Forest) (k : ℕ) : Type 0 where
 
 -- a text is read as a sheet, into any space that is long enough
 abbrev pub ReadsAs : List ℕ → List ℕ → Type 0
-ReadsAs text sheet = (space : List ℕ) → length sheet ≤ length space → reads text space ≡ outcome (Made (length sheet)) (sets space 0 sheet)
+ReadsAs text sheet = (space : List ℕ) → length sheet ≤ length space → reads text space ≡ outcome (Ok (length sheet)) (sets space 0 sheet)
 
 -- each part is read as the sheet of its documents' bulks
 pub record PartsRead (text : List ℕ) (f : Forest) (k : ℕ) : Type 0 where

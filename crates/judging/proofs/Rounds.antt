@@ -25,7 +25,7 @@ use Rattle.report.specs.Line.{count_width, first_line, sections_place, after_lin
 use Rattle.report.specs.declared.Places.{Places}
 use Rattle.refusing.specs.Refusals.{most_messages}
 use Rattle.refusing.specs.Checking.{Few}
-use Rattle.refusing.specs.declared.Contents.{Contents}
+use Rattle.sheet.specs.declared.Contents.{Contents}
 use Rattle.messages.specs.Messages.{State}
 use Rattle.messages.specs.Ready.{state_of, SectionReady}
 use Rattle.judging.specs.Judgement.{bulk_line_of, section_of, after_bulk, judge_bulks}
@@ -34,9 +34,6 @@ use Rattle.judging.specs.Ready.{bulk_in, HeaderReady, BulkSpace, BulkTold, Bulks
 use Rattle.judging.proofs.Walks.{after_bulk_lem, bulk_lines_lem, bulk_sections}
 use Rattle.judging.proofs.Entries.{bulk_spare, slots_split, slots_few}
 use Rattle.judging.proofs.Widths.{section_wide, bulk_line_wide, bulk_lines_wide}
-
-pub sections_within : (sheet table positions report : List ℕ) (contents : Contents) → BulksReady sheet table positions report contents → sections_place contents.bulks ≤ length report
-sections_within sheet table positions report contents ready = (let space = ready.space in omega arith)
 
 module _ (terms : Terms) (table sheet : List ℕ) (indexed : Bool) (bulks : ℕ) (before : State) (index₀ report₀ : List ℕ) where
   pub record BulksLeft (register index positions report : List ℕ) (slots head at line to k : ℕ) : Type 0 where

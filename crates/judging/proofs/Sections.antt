@@ -2,11 +2,11 @@
 use mathlib.Core.Path.{◌≡◌, refl, sym, ap, ◌∙◌}
 use mathlib.Core.Bool.{Bool, true, false, cond, not}
 use mathlib.Core.List.{List, ◌++◌}
-use Prim.Native.Nat.{ℕ, ◌+◌, ◌-◌, ◌*◌, ◌^◌, ◌≤◌, ◌<◌}
+use Prim.Native.Nat.{ℕ, ◌+◌, ◌^◌, ◌≤◌, ◌<◌}
 use native.Mathlib.Nat.{add-zero}
 use native.Mathlib.Omega.{arith}
 use lib.Dec.{eqb}
-use lib.ListN.{length, take, drop, length-take, length-drop}
+use lib.ListN.{length}
 use lib.Seq.{sets, length-sets}
 use borrow.Author.Tests.{eq-eqb, ne_eqb}
 use Rattle.wire.specs.Field.{bytes_of}
@@ -14,7 +14,7 @@ use Rattle.wire.proofs.Numbers.{bytes_length}
 use Rattle.wire.proofs.Stores.{sets_then}
 use Rattle.routing.specs.Lookup.{option_of, head_office_row}
 use Rattle.routing.specs.Promise.{RowTold}
-use Rattle.routing.specs.declared.Found.{Found}
+use Rattle.std.specs.Prelude.{Option as RustOption}
 use Rattle.sheet.specs.Sheet.{message_width, sender_of, bulk_identifier_of, Bulk}
 use Rattle.sheet.specs.Reading.{header_in}
 use Rattle.sheet.specs.declared.Header.{Header}
@@ -25,7 +25,7 @@ use Rattle.masks.specs.Mask.{mask}
 use Rattle.slots.specs.Slots.{End}
 use Rattle.register.specs.Register.{key_width, bulk_tag, add, key as key_of}
 use Rattle.register.specs.Room.{Parts}
-use Rattle.register.proofs.Laws.{key_length, spare_less}
+use Rattle.register.proofs.Laws.{key_length}
 use Rattle.index.specs.Index.{end_in}
 use Rattle.index.specs.Searches.{slots_read, slots_read_by}
 use Rattle.index.specs.Ready.{index_by, nowhere, Ready, SoughtTold, EnteredAnew}
@@ -33,33 +33,19 @@ use Rattle.index.specs.declared.Sought.{Sought}
 use Rattle.index.proofs.Ways.{index_then, index_own, read_of, reads_fit}
 use Rattle.rules.specs.declared.Terms.{Terms}
 use Rattle.faults.specs.Faults.{sender_row, bulk_facts_given, bulk_faults}
-use Rattle.faults.specs.Asked.{BulkAsked}
 use Rattle.tally.specs.Tally.{Totals, totals_of}
 use Rattle.tally.specs.Room.{most_counted}
-use Rattle.report.specs.Line.{count_width, bulk_line, bulk_line_width, lines_at, message_line_width}
+use Rattle.report.specs.Line.{count_width, bulk_line, bulk_line_width, lines_at}
 use Rattle.report.specs.declared.Places.{Places}
 use Rattle.messages.specs.Messages.{State, judge_messages, sum_of}
 use Rattle.messages.specs.Searches.{message_searches}
-use Rattle.messages.specs.Ready.{state_of, messages_of, RulingReady, MessagesTold}
+use Rattle.messages.specs.Ready.{state_of, messages_of, MessagesTold}
 use Rattle.messages.specs.declared.Counts.{Counts}
 use Rattle.messages.proofs.Walks.{messages_spare, searches_length}
 use Rattle.judging.specs.Judgement.{bulk_outcome, faults_of_bulk, falls, messages_judged, bulk_line_of, section_of, after_bulk}
 use Rattle.judging.specs.Searches.{bulk_search, search_again, bulk_searches}
 use Rattle.judging.specs.Ready.{bulk_in, HeaderReady, BulkSpace, BulkTold, RecordTold}
 use Rattle.judging.proofs.Entries.{bulk_slots}
-
--- ---- outcomes
-
-module _ (fallen : Bool) (t : Totals) (stands : fallen ≡ false) where
-  pub outcome_all : t.rejected_number ≡ 0 → 0 ≡ bulk_outcome fallen t
-  outcome_all none = rw (stands, eq-eqb t.rejected_number 0 none)
-
-  module _ (some_rejected : t.rejected_number ≡ 0 → ⊥) where
-    pub outcome_none : t.accepted_number ≡ 0 → 2 ≡ bulk_outcome fallen t
-    outcome_none none = rw (stands, ne_eqb t.rejected_number 0 some_rejected, eq-eqb t.accepted_number 0 none)
-
-    pub outcome_some : (t.accepted_number ≡ 0 → ⊥) → 1 ≡ bulk_outcome fallen t
-    outcome_some more = rw (stands, ne_eqb t.rejected_number 0 some_rejected, ne_eqb t.accepted_number 0 more)
 
 -- ---- the record of a bulk
 
@@ -82,22 +68,10 @@ module _ (indexed : Bool) (register index new : List ℕ) (accepted : ℕ) where
 -- ---- what the callees ask
 
 module _ (terms : Terms) (sheet table positions : List ℕ) (header : Header) (ready : HeaderReady sheet table positions header) where
-  module _ (sender : List ℕ) (read : sender ≡ sender_of (header_in sheet header)) (row : Found)
+  module _ (sender : List ℕ) (read : sender ≡ sender_of (header_in sheet header)) (row : RustOption ℕ)
       (told : RowTold table (option_of row) (head_office_row terms.date table sender)) where
     row_told : option_of row ≡ sender_row terms table (header_in sheet header)
     row_told = told.is ∙ ap (λ (s : List ℕ). head_office_row terms.date table s) read
-
-    pub bulk_asked : BulkAsked terms sheet table header row
-    bulk_asked = record { within = ready.within; read = ready.read; found = row_told }
-
-    pub ruling_ready : (fallen : Bool) → RulingReady terms sheet table positions (record { header = header; row = row; fallen = fallen })
-    ruling_ready fallen =
-        record {
-          header_within = ready.within;
-          header_read = ready.read;
-          row_found = record { is = row_told; within = told.within };
-          places = ready.places;
-        }
 
   pub bulk_parts : (sender identifier : List ℕ) → sender ≡ sender_of (header_in sheet header) → identifier ≡ bulk_identifier_of (header_in sheet header) → Parts sender identifier
   bulk_parts sender identifier es ei =
@@ -112,9 +86,6 @@ module _ (terms : Terms) (sheet table positions : List ℕ) (header : Header) (r
 
 -- the places that a bulk asks for, and what its messages leave of them
 module _ (indexed : Bool) (register index : List ℕ) (n : ℕ) (ready : Ready indexed register index (n + 1)) where
-  pub ready_for : (m : ℕ) → m ≤ n + 1 → Ready indexed register index m
-  ready_for m h = record { spare = spare_less register (n + 1) m h ready.spare; kept = ready.kept }
-
   pub ready_after : (terms : Terms) (table header : List ℕ) (fallen : Bool) (messages : List (List ℕ)) (positions out register' index' positions' out' : List ℕ) (counts : Counts)
       → length messages ≡ n → MessagesTold terms table header fallen indexed messages (state_of register positions) index out register' index' positions' out' counts
       → Ready indexed register' index' 1
@@ -141,12 +112,6 @@ pub place_there : (from to : ℕ) → from ≡ to → to ≡ from + 0
 place_there from to e = omega arith
 
 module _ (report : List ℕ) (n : ℕ) (places : Places) (space : BulkSpace report n places) where
-  pub lent_within : (report' : List ℕ) → length report' ≡ length report → lines_at places.section ≤ length report'
-  lent_within report' kept = let h = space.space in omega arith
-
-  pub lent_space : (report' : List ℕ) (from : ℕ) → length report' ≡ length report → from ≡ lines_at places.section → message_line_width * n ≤ length (take (length report' - from) (drop from report'))
-  lent_space report' from kept e = let h = space.space in simp (length-take, length-drop) (omega arith)
-
   pub line_within : (report' report'' : List ℕ) (from : ℕ) (vs : List ℕ) → length report' ≡ length report → report'' ≡ sets report' from vs → places.line + bulk_line_width ≤ length report''
   line_within report' report'' from vs kept e =
       let h = space.space in

@@ -19,30 +19,35 @@ use Rattle.report.specs.Line.{count_width, bulk_line_width, first_line, sections
 use Rattle.index.specs.Searches.{slots_read_by}
 use Rattle.index.specs.Ready.{index_by, Ready}
 use Rattle.refusing.specs.Refusals.{Call, holds, refusals, first_holding, refusal, indexed_refusal}
-use Rattle.refusing.specs.Checking.{asked, Measured, Few, Told}
-use Rattle.refusing.specs.declared.Contents.{Contents}
+use Rattle.refusing.specs.Checking.{asked, lent_bytes, Measured, Few, Told}
+use Rattle.sheet.specs.declared.Contents.{Contents}
 use Rattle.refusing.specs.declared.Refusal.{Refusal}
 use Rattle.refusing.specs.declared.Refusal.TheVariants.{Date}
-use Rattle.refusing.specs.declared.Checked.{Checked}
-use Rattle.refusing.specs.declared.Checked.TheVariants.{Stopped, Fine}
 use Rattle.refusing.proofs.Clear.{Clear, asked_clear}
-use Rattle.refusing.proofs.Numbers.{some_number}
 use Rattle.messages.specs.Ready.{state_of}
 use Rattle.judging.specs.Outcome.{left, turned_away, judgement, judged_of, outcome}
 use Rattle.judging.specs.Indexed.{searches_of, indexed_left, indexed_away, indexed_outcome}
 use Rattle.judging.specs.Ready.{BulksReady, BulksTold, outcome_by}
-use Rattle.judging.specs.declared.Answer.TheVariants.{Refused, Judged}
+use Rattle.std.specs.Prelude.{Option, Result, Ok, Err}
+use Rattle.std.specs.Option.{is_some}
+use Rattle.std.specs.Bool.{then_some}
+use Rattle.std.specs.Borrow.{Bor}
 use Rattle.judging.proofs.Widths.{lines_length}
 
-module _ (indexed : Bool) (call : Call) (index : List ℕ) (checked : Checked) where
-  -- the check from its first condition on is the whole check
-  pub refused_told : (r : Refusal) → checked ≡ Stopped r → Told Date (asked indexed index call) call.sheet checked
-      → indexed_left (record { answer = Refused r; slots = 0 }) call.register call.positions call.report index ≡ outcome_by indexed call index
-  refused_told r e told =
-      let number = subst (Told Date (asked indexed index call) call.sheet) e told in
-      rw (number, some_number r)
+-- the check of a call that lends an index only where it is judged by one
+pub asked_told : (indexed : Bool) (index : Bor (List ℕ)) (lent : Option (Bor (List ℕ))) (call : Call) (checked : Result Contents Refusal) → lent ≡ then_some indexed index
+    → Told Date (asked (is_some lent) (lent_bytes lent) call) call.sheet checked → Told Date (asked indexed index.now call) call.sheet checked
+asked_told indexed index lent call checked e told =
+    by_test indexed checked (subst (λ (o : Option (Bor (List ℕ))). Told Date (asked (is_some o) (lent_bytes o) call) call.sheet checked) e told)
+  where
+    by_test : (t : Bool) (x : Result Contents Refusal) → Told Date (asked (is_some (then_some t index)) (lent_bytes (then_some t index)) call) call.sheet x → Told Date (asked t index.now call) call.sheet x
+    by_test true x told = told
+    by_test false (Ok contents) told = told
+    by_test false (Err r) told = told
 
-  module _ (contents : Contents) (e : checked ≡ Fine contents) (told : Told Date (asked indexed index call) call.sheet checked) where
+module _ (indexed : Bool) (call : Call) (index : List ℕ) (checked : Result Contents Refusal) where
+  -- the check from its first condition on is the whole check
+  module _ (contents : Contents) (e : checked ≡ Ok contents) (told : Told Date (asked indexed index call) call.sheet checked) where
     passed : (first_holding (asked indexed index call) refusals ≡ 0) × Measured call.sheet contents
     passed = subst (Told Date (asked indexed index call) call.sheet) e told
 
@@ -94,7 +99,7 @@ module _ (indexed : Bool) (call : Call) (index : List ℕ) (checked : Checked) w
           whole_report
           ∙ ap (λ (k : ℕ). sets call.report 0 (bytes_of count_width k ++ (judgement call).lines ++ (judgement call).sections)) passed.1.bulk_count
 
-      outcome_is_lem : (n : ℕ) → n ≡ report_length contents.bulks contents.messages → left (Judged n) register' positions' report' ≡ judged_of call (judgement call)
+      outcome_is_lem : (n : ℕ) → n ≡ report_length contents.bulks contents.messages → left (Ok n) register' positions' report' ≡ judged_of call (judgement call)
       outcome_is_lem n told-length =
           λ i. record {
             number = 0;
@@ -105,7 +110,7 @@ module _ (indexed : Bool) (call : Call) (index : List ℕ) (checked : Checked) w
           }
 
       pub judged_told : (n : ℕ) → n ≡ report_length contents.bulks contents.messages
-          → indexed_left (record { answer = Judged n; slots = slots }) register' positions' report' index' ≡ outcome_by indexed call index
+          → indexed_left (Ok (record { length = n; slots = slots })) register' positions' report' index' ≡ outcome_by indexed call index
       judged_told n told-length =
           rw passed.0 (λ i. record { outcome = outcome_is_lem n told-length i; slots = judged.read i; index = judged.kept i })
 

@@ -1,16 +1,15 @@
 -- The outcome of a call with an index, and of building one from a register. Assumes nothing.
-use Rattle.std.specs.Prelude.{ℕ, true, cond, List, eqb}
+use Rattle.std.specs.Prelude.{ℕ, true, cond, List, eqb, Result, Ok, Err}
 use Rattle.sheet.specs.Sheet.{bulks_of}
 use Rattle.register.specs.Register.{well_formed}
 use Rattle.index.specs.Index.{index_of}
 use Rattle.index.specs.Searches.{Search, slots_read_by}
 use Rattle.refusing.specs.Refusals.{Call, refusal_number, length_wrong, indexed_refusal}
+use Rattle.refusing.specs.declared.Refusal.{Refusal}
 use Rattle.refusing.specs.declared.Refusal.TheVariants.{Register, IndexLength}
 use Rattle.judging.specs.Searches.{searches}
 use Rattle.judging.specs.Outcome.{Outcome, turned_away, judgement, judged_of, left}
-use Rattle.judging.specs.declared.IndexedAnswer.{IndexedAnswer}
-use Rattle.judging.specs.declared.Building.{Building}
-use Rattle.judging.specs.declared.Building.TheVariants.{Unbuilt, Built}
+use Rattle.judging.specs.declared.Judged.{Judged}
 
 -- ---- a call with an index
 
@@ -42,9 +41,11 @@ indexed_outcome call index =
     cond (eqb (indexed_refusal call index) 0) (indexed_judged call) (indexed_away call index (indexed_refusal call index))
 
 -- an answer and the bytes that were left
-abbrev pub indexed_left : IndexedAnswer → List ℕ → List ℕ → List ℕ → List ℕ → IndexedOutcome
-indexed_left r register positions report index =
-    record { outcome = left r.answer register positions report; slots = r.slots; index = index }
+abbrev pub indexed_left : Result Judged Refusal → List ℕ → List ℕ → List ℕ → List ℕ → IndexedOutcome
+indexed_left (Err r) register positions report index =
+    record { outcome = left (Err r) register positions report; slots = 0; index = index }
+indexed_left (Ok judged) register positions report index =
+    record { outcome = left (Ok judged.length) register positions report; slots = judged.slots; index = index }
 
 -- ---- an index built from a register
 
@@ -60,9 +61,9 @@ index_built register index =
     (record { number = 0; index = index_of register }))
     (record { number = refusal_number Register; index = index })
 
-abbrev pub building_number : Building → ℕ
-building_number (Unbuilt r) = refusal_number r
-building_number Built = 0
+abbrev pub building_number : Result Unit Refusal → ℕ
+building_number (Err r) = refusal_number r
+building_number (Ok _) = 0
 
-abbrev pub built_left : Building → List ℕ → IndexBuilt
+abbrev pub built_left : Result Unit Refusal → List ℕ → IndexBuilt
 built_left r index = record { number = building_number r; index = index }

@@ -1,13 +1,12 @@
 -- The outcome of a call as one record: the answer, and every byte that it leaves. Assumes nothing.
-use Rattle.std.specs.Prelude.{ℕ, cond, List, ◌++◌, eqb}
+use Rattle.std.specs.Prelude.{ℕ, cond, List, ◌++◌, eqb, Result, Ok, Err}
 use Rattle.std.proofs.lemmas.List.Edits.{sets}
 use Rattle.wire.specs.Field.{bytes_of}
 use Rattle.sheet.specs.Sheet.{bulk_count, message_count, bulks_of}
 use Rattle.report.specs.Line.{count_width, report_length}
 use Rattle.judging.specs.Judgement.{JudgedBulks, judge_bulks}
 use Rattle.refusing.specs.Refusals.{Call, refusal_number, refusal}
-use Rattle.judging.specs.declared.Answer.{Answer}
-use Rattle.judging.specs.declared.Answer.TheVariants.{Refused, Judged}
+use Rattle.refusing.specs.declared.Refusal.{Refusal}
 
 pub record Outcome : Type 0 where
   pub number : ℕ
@@ -44,15 +43,15 @@ outcome call = cond (eqb (refusal call) 0) (judged_of call (judgement call)) (tu
 
 -- ---- the number and the length for each case of the answer
 
-abbrev pub answer_number : Answer → ℕ
-answer_number (Refused r) = refusal_number r
-answer_number (Judged n) = 0
+abbrev pub answer_number : Result ℕ Refusal → ℕ
+answer_number (Err r) = refusal_number r
+answer_number (Ok n) = 0
 
-abbrev pub answer_length : Answer → ℕ
-answer_length (Refused r) = 0
-answer_length (Judged n) = n
+abbrev pub answer_length : Result ℕ Refusal → ℕ
+answer_length (Err r) = 0
+answer_length (Ok n) = n
 
 -- an answer and the bytes that were left, as an outcome
-abbrev pub left : Answer → List ℕ → List ℕ → List ℕ → Outcome
+abbrev pub left : Result ℕ Refusal → List ℕ → List ℕ → List ℕ → Outcome
 left answer register positions report =
     record { number = answer_number answer; length = answer_length answer; register = register; positions = positions; report = report }

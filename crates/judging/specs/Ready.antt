@@ -16,15 +16,23 @@ use Rattle.report.specs.Line.{first_line, sections_place, after_lines, bulk_line
 use Rattle.report.specs.declared.Places.{Places}
 use Rattle.refusing.specs.Refusals.{Call, refusals, first_holding}
 use Rattle.refusing.specs.Checking.{asked, Few}
-use Rattle.refusing.specs.declared.Contents.{Contents}
+use Rattle.sheet.specs.declared.Contents.{Contents}
 use Rattle.messages.specs.Messages.{State}
 use Rattle.messages.specs.Ready.{messages_of}
-use Rattle.judging.specs.Judgement.{bulk_line_of, section_of, after_bulk, judge_bulks}
+use Rattle.judging.specs.Judgement.{bulk_accepted, bulk_partial, bulk_rejected, bulk_line_of, section_of, after_bulk, judge_bulks}
 use Rattle.judging.specs.Searches.{bulk_searches, searches}
 use Rattle.judging.specs.Outcome.{judgement, judged_of}
+use Rattle.judging.specs.declared.bulks.Outcome.{Outcome}
+use Rattle.judging.specs.declared.bulks.Outcome.TheVariants.{Accepted, Partial, Rejected}
 use Rattle.judging.specs.Indexed.{IndexedOutcome, searches_of, indexed_away}
 
 -- ---- one bulk
+
+-- the number of an outcome
+abbrev pub outcome_number : Outcome → ℕ
+outcome_number Accepted = bulk_accepted
+outcome_number Partial = bulk_partial
+outcome_number Rejected = bulk_rejected
 
 abbrev pub bulk_in : List ℕ → Header → Section → Bulk
 bulk_in sheet header section = record { header = header_in sheet header; messages = messages_of sheet header.kind section }

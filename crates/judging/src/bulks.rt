@@ -1,39 +1,44 @@
 // The bulks of a file, one after the other.
 ghost use Rattle.std.specs.Prelude.{◌≡◌, ◌+◌};
 ghost use Rattle.index.specs.Ready.{Ready, AnewReady};
-ghost use Rattle.directory.specs.Ready.{Made};
 ghost use Rattle.tally.specs.Tally.{totals_of};
 ghost use Rattle.messages.specs.Ready.{state_of, SectionReady};
 ghost use Rattle.judging.specs.Judgement.{bulk_outcome};
-ghost use Rattle.judging.specs.Ready.{bulk_in, HeaderReady, BulkSpace, BulkTold, RecordTold, BulksReady, BulksTold};
+ghost use Rattle.judging.specs.Ready.{outcome_number, bulk_in, HeaderReady, BulkSpace, BulkTold, RecordTold, BulksReady, BulksTold};
 
-use messages::Ruling;
-use refusing::Contents;
+use messages::{Asked, Ruling};
 use report::Places;
-use rules::Terms;
-use sheet::{Header, Section, Walk};
+use sheet::{BulkRead, Contents, Header, Section, Walk};
 use tally::Tally;
 
-// The outcomes of a bulk.
-const ACCEPTED: u8 = 0;
+// What a bulk's line tells of it, each outcome with its number; a message has others.
+#[derive(Debug, Clone, Copy, PartialEq, Eq)]
+enum Outcome {
+    Accepted = 0,
+    Partial = 1,
+    Rejected = 2,
+}
 
-const PARTIAL: u8 = 1;
+impl Outcome {
+    fn number(self) -> u8
+        ensures { result ≡ outcome_number self }
+    {
+        self as u8
+    }
+}
 
-const REJECTED: u8 = 2;
-
-fn bulk_outcome(fallen: bool, tally: Tally) -> u8
-    ensures { result ≡ bulk_outcome fallen (totals_of tally) }
+fn bulk_outcome(fallen: bool, tally: Tally) -> Outcome
+    ensures { outcome_number result ≡ bulk_outcome fallen (totals_of tally) }
 {
     if fallen {
-        return REJECTED;
+        Outcome::Rejected
+    } else if tally.rejected.number.0 == 0 {
+        Outcome::Accepted
+    } else if tally.accepted.number.0 == 0 {
+        Outcome::Rejected
+    } else {
+        Outcome::Partial
     }
-    if tally.rejected.number.0 == 0 {
-        return ACCEPTED;
-    }
-    if tally.accepted.number.0 == 0 {
-        return REJECTED;
-    }
-    PARTIAL
 }
 
 // Records a bulk if one of its messages was accepted. The slots that were read for it.
@@ -55,11 +60,10 @@ fn record_bulk(
 
 // Judges one bulk, the messages of which are those of the section. Its line and its own section go to their places in the report. The slots
 // that were read for it.
+// `indexed` stands beside `index` as `index::seek` takes both. Tried: a struct of the `&mut` slices; its caller is not proved to know what is
+// left in each.
 fn judge_bulk(
-    terms: Terms,
-    sheet: &[u8],
-    table: &[u8],
-    directory: &[u8],
+    asked: &Asked,
     indexed: bool,
     register: &mut [u8],
     index: &mut [u8],
@@ -69,14 +73,17 @@ fn judge_bulk(
     section: Section,
     places: Places,
 ) -> u64
-    requires { (HeaderReady sheet.now table.now positions.old header) × (SectionReady sheet.now header.kind section) × (BulkSpace report.old section.number places) × (Ready indexed register.old index.old (section.number + 1)) × (Made terms.date table.now directory.now) }
-    ensures { BulkTold terms table.now indexed (bulk_in sheet.now header section) (state_of register.old positions.old) index.old report.old places register.new index.new positions.new report.new result }
+    requires { (HeaderReady asked.now.sheet.now asked.now.table.now positions.old header) × (SectionReady asked.now.sheet.now header.kind section) × (BulkSpace report.old section.number places) × (Ready indexed register.old index.old (section.number + 1)) }
+    ensures { BulkTold asked.now.terms asked.now.table.now indexed (bulk_in asked.now.sheet.now header section) (state_of register.old positions.old) index.old report.old places register.new index.new positions.new report.new result }
 {
+    let terms = asked.terms;
+    let sheet = asked.sheet;
+    let table = asked.table;
     let sender = header.sender(sheet);
     let identifier = header.identifier(sheet);
     let key = register::key_of(sender, identifier, register::BULK);
     let sought = index::seek(indexed, register, index, &key);
-    let row = directory::head_office_row(terms.date, table, directory, sender);
+    let row = directory::head_office_row(terms.date, table, asked.directory, sender);
     let sum = messages::sum_of(sheet, header.kind, section);
     let n = section.number;
     let faults = faults::bulk_faults(
@@ -94,10 +101,7 @@ fn judge_bulk(
     report::put_count(report, at, n);
     let from = report::lines_at(at);
     let counts = messages::judge_messages(
-        terms,
-        sheet,
-        table,
-        directory,
+        asked,
         indexed,
         register,
         index,
@@ -111,26 +115,15 @@ fn judge_bulk(
         section,
     );
     let tally = counts.tally;
-    let line = places.line;
-    report::put_bulk_line(
-        report,
-        line,
-        identifier,
-        bulk_outcome(fallen, tally),
-        faults,
-        tally,
-    );
+    let outcome = bulk_outcome(fallen, tally).number();
+    report::put_bulk_line(report, places.line, identifier, outcome, faults, tally);
     let again = record_bulk(indexed, register, index, &key, tally.accepted.number.0);
-    let ended = sought.ended;
-    counts.slots + (ended.read as u64 + again as u64)
+    counts.slots + (sought.ended.read as u64 + again as u64)
 }
 
 // Judges all bulks of a whole sheet. The report's count is written before. The slots that were read for them.
 pub(crate) fn judge_bulks(
-    terms: Terms,
-    sheet: &[u8],
-    table: &[u8],
-    directory: &[u8],
+    asked: &Asked,
     indexed: bool,
     register: &mut [u8],
     index: &mut [u8],
@@ -138,26 +131,24 @@ pub(crate) fn judge_bulks(
     report: &mut [u8],
     contents: Contents,
 ) -> u64
-    requires { (BulksReady sheet.now table.now positions.old report.old contents) × (Ready indexed register.old index.old (contents.bulks + contents.messages)) × (Made terms.date table.now directory.now) }
-    ensures { BulksTold terms sheet.now table.now indexed contents.bulks (state_of register.old positions.old) index.old report.old register.new index.new positions.new report.new result }
+    requires { (BulksReady asked.now.sheet.now asked.now.table.now positions.old report.old contents) × (Ready indexed register.old index.old (contents.bulks + contents.messages)) }
+    ensures { BulksTold asked.now.terms asked.now.sheet.now asked.now.table.now indexed contents.bulks (state_of register.old positions.old) index.old report.old register.new index.new positions.new report.new result }
 {
-    let bulks = contents.bulks;
+    let sheet = asked.sheet;
     let mut walk = Walk::start(sheet);
-    let mut places = Places::first(report, bulks);
+    let mut places = Places::first(report, contents.bulks);
     let mut slots: u64 = 0;
-    let mut k = 0;
-    while k < bulks {
-        let read = walk.bulk(sheet);
-        let header = read.header;
-        let section = read.section;
+    for _k in 0..contents.bulks {
+        let BulkRead {
+            header,
+            section,
+            next,
+        } = walk.bulk(sheet);
         slots += judge_bulk(
-            terms, sheet, table, directory, indexed, register, index, positions, report, header,
-            section, places,
+            asked, indexed, register, index, positions, report, header, section, places,
         );
-        let next = read.next;
         walk = next;
         places = places.next(report, section.number);
-        k += 1;
     }
     slots
 }

@@ -45,10 +45,6 @@ module _ (a b c d : ℕ) where
   unfolding width_of
   width_quadruple e f g h = rw (e, f, g, h)
 
-  pub width_none : single a ≡ false → double a b ≡ false → triple a b c ≡ false → quadruple a b c d ≡ false → 0 ≡ width_of a b c d
-  unfolding width_of
-  width_none e f g h = rw (e, f, g, h)
-
 pub width_first : (s : List ℕ) (at : ℕ) → single (byte_at s at) ≡ true → 1 ≡ width_at s at
 unfolding width_at
 width_first s at e = width_single (byte_at s at) (byte_at s (at + 1)) (byte_at s (at + 2)) (byte_at s (at + 3)) e

@@ -1,57 +1,45 @@
--- The laws of references: digits, numerals that are clipped, and what a reference at a place shows of the text. Assumes nothing.
+-- The laws of references: numerals that are clipped, and what a reference at a place shows of the text. Assumes nothing.
 use mathlib.Core.Path.{◌≡◌, refl, sym, ap, ◌∙◌}
 use mathlib.Core.Logic.{⊎_elim}
 use mathlib.Core.Bool.{Bool, true, false, cond, false≢true}
 use mathlib.Core.List.{List, [], ◌∷◌}
 use Prim.Native.Nat.{ℕ, suc, ◌+◌, ◌*◌, ◌-◌, ◌≤◌, ◌<◌, min}
-use native.Mathlib.Nat.{min-eq_left, mul-le-mul, mul-le-mul_left}
+use native.Mathlib.Nat.{min-eq_left, mul-le-mul_left}
 use native.Mathlib.Numerals.{add-one}
 use native.Mathlib.Omega.{arith}
 use lib.Dec.{ltb, eqb}
 use lib.ListN.{length, drop, get_or, drop_of_length-le, length-take, length-drop}
 use lib.Seq.{drop-cons}
 use borrow.Author.Tests.{lt-ltb, le-ltb, eq-eqb, ne_eqb, eqb-true}
-use Rattle.wire.specs.Field.{text, part, same}
+use Rattle.wire.specs.Field.{text, part}
 use Rattle.wire.proofs.Texts.{same_equal}
 use Rattle.wire.proofs.Sides.{le_or_lt}
-use Rattle.letters.specs.Places.{byte_at, within, run_end, between}
+use Rattle.letters.specs.Places.{byte_at, run_end, between}
 use Rattle.letters.specs.Characters.{is_character}
 use Rattle.letters.proofs.Scans.{byte_there}
 use Rattle.letters.proofs.Characters.{character_high}
+use Rattle.std.specs.Prelude.{Option, Some, None}
 use Rattle.letters.specs.declared.Reference.{Reference}
-use Rattle.letters.specs.declared.Reference.TheVariants.{Stands, Nothing}
-use Rattle.letters.specs.References.{digit_of, digit_in, numeral_from, numeral, numbered, numbered_at, stands, reference_at}
+use Rattle.letters.specs.References.{digit_of, digit_in, numeral_from, numeral, numbered, numbered_at, stands, reference_at, refers}
 
--- ---- digits
+-- ---- a reference is its two numbers
 
-module _ (b : ℕ) where
-  pub digit_decimal : within 48 57 b ≡ true → b - 48 ≡ digit_of b
-  unfolding digit_of
-  digit_decimal e = rw e
+abbrev character_of : Option Reference → ℕ
+character_of (Some r) = r.character
+character_of None = 0
 
-  pub digit_lower : within 48 57 b ≡ false → within 97 102 b ≡ true → b - 87 ≡ digit_of b
-  unfolding digit_of
-  digit_lower e f = rw (e, f)
+abbrev next_of : Option Reference → ℕ
+next_of (Some r) = r.next
+next_of None = 0
 
-  pub digit_upper : within 48 57 b ≡ false → within 97 102 b ≡ false → within 65 70 b ≡ true → b - 55 ≡ digit_of b
-  unfolding digit_of
-  digit_upper e f g = rw (e, f, g)
+module _ {c next d after : ℕ} (e : refers c next ≡ refers d after) where
+  pub refers_same : c ≡ d
+  refers_same = ap character_of e
 
-  pub digit_none : within 48 57 b ≡ false → within 97 102 b ≡ false → within 65 70 b ≡ false → 99 ≡ digit_of b
-  unfolding digit_of
-  digit_none e f g = rw (e, f, g)
-
-  pub digit_in_lem : (base d : ℕ) → d < base → d ≡ digit_of b → digit_in base b ≡ true
-  digit_in_lem base d h e = rw (← e) (lt-ltb d base h)
-
-  pub digit_out : (base d : ℕ) → base ≤ d → d ≡ digit_of b → digit_in base b ≡ false
-  digit_out base d h e = rw (← e) (le-ltb d base h)
+  pub refers_next : next ≡ after
+  refers_next = ap next_of e
 
 -- ---- numerals
-
--- a product of what the loop holds
-pub product_small : (v base : ℕ) → v ≤ 1114112 → base ≤ 16 → v * base ≤ 17825792
-product_small v base h k = omega (arith, mul-le-mul h k)
 
 -- clipped before or after a digit more
 clipped : (limit v base d : ℕ) → 0 < base → min (min v limit * base + d) limit ≡ min (v * base + d) limit
@@ -97,20 +85,20 @@ module _ (v c : ℕ) (e : c ≡ min v 1114112) where
       (le_or_lt 1114112 v)
 
 module _ (base : ℕ) (s : List ℕ) (from to : ℕ) (e : to ≡ run_end (digit_in base) s from) where
-  pub numbered_empty : to ≤ from → Nothing ≡ numbered_at base s from
+  pub numbered_empty : to ≤ from → None ≡ numbered_at base s from
   unfolding numbered_at
   numbered_empty h = rw (← e, le-ltb from to h)
 
-  pub numbered_open : from < to → (byte_at s to ≡ 59 → ⊥) → Nothing ≡ numbered_at base s from
+  pub numbered_open : from < to → (byte_at s to ≡ 59 → ⊥) → None ≡ numbered_at base s from
   unfolding numbered_at
   numbered_open h f = rw (← e, lt-ltb from to h, ne_eqb (byte_at s to) 59 f)
 
   module _ (h : from < to) (f : byte_at s to ≡ 59) (c : ℕ) (g : c ≡ min (numeral base (part s from (to - from))) 1114112) where
-    pub numbered_other : is_character c ≡ false → Nothing ≡ numbered_at base s from
+    pub numbered_other : is_character c ≡ false → None ≡ numbered_at base s from
     unfolding numbered_at
     numbered_other k = rw (← e, lt-ltb from to h, eq-eqb (byte_at s to) 59 f, clipped_false (numeral base (part s from (to - from))) c g k)
 
-    pub numbered_stands : is_character c ≡ true → Stands c (to + 1) ≡ numbered_at base s from
+    pub numbered_stands : is_character c ≡ true → refers c (to + 1) ≡ numbered_at base s from
     unfolding numbered_at
     numbered_stands k =
         let whole = clipped_true (numeral base (part s from (to - from))) c g k in
@@ -148,57 +136,57 @@ pub record Shown (s : List ℕ) (at c next : ℕ) : Type 0 where
 
 module _ (s : List ℕ) (at c next : ℕ) where
   -- one of the names
-  named : (word : List ℕ) (k : ℕ) → is_character k ≡ true → stands s at (38 ∷ word) ≡ true → Stands k (at + suc (length word)) ≡ Stands c next → Shown s at c next
+  named : (word : List ℕ) (k : ℕ) → is_character k ≡ true → stands s at (38 ∷ word) ≡ true → refers k (at + suc (length word)) ≡ refers c next → Shown s at c next
   named word k e t told =
       let there = stands_there s at (38 ∷ word) t (omega arith) in
-      let same : k ≡ c = cc in
-      let ends : at + suc (length word) ≡ next = cc in
+      let same : k ≡ c = refers_same told in
+      let ends : at + suc (length word) ≡ next = refers_next told in
       record { forward = omega arith; inside = omega arith; sign = stands_first s at 38 word t; character = rw same at e }
 
   -- a number
-  numbered_shown : (base from to : ℕ) → from ≤ to → numbered base s from to ≡ Stands c next → (from < next) × (next ≤ length s) × (is_character c ≡ true)
+  numbered_shown : (base from to : ℕ) → from ≤ to → numbered base s from to ≡ refers c next → (from < next) × (next ≤ length s) × (is_character c ≡ true)
   numbered_shown base from to h told = by_tests_lem (ltb from to) (eqb (byte_at s to) 59) (is_character (numeral base (between s from to))) refl refl told
     where
       by_tests_lem : (t u v : Bool) → eqb (byte_at s to) 59 ≡ u → is_character (numeral base (between s from to)) ≡ v
-          → cond t (cond u (cond v (Stands (numeral base (between s from to)) (to + 1)) Nothing) Nothing) Nothing ≡ Stands c next
+          → cond t (cond u (cond v (refers (numeral base (between s from to)) (to + 1)) None) None) None ≡ refers c next
           → (from < next) × (next ≤ length s) × (is_character c ≡ true)
       by_tests_lem true true true e f told =
           let there = byte_there s to (omega (arith, eqb-true (byte_at s to) 59 e)) in
-          let same : numeral base (between s from to) ≡ c = cc in
-          let ends : to + 1 ≡ next = cc in
+          let same : numeral base (between s from to) ≡ c = refers_same told in
+          let ends : to + 1 ≡ next = refers_next told in
           (omega arith, omega arith, rw same at f)
       by_tests_lem true true false e f told = absurd (let z : ◌≡◌ {A = ℕ} 0 1 = cc in omega arith)
       by_tests_lem true false v e f told = absurd (let z : ◌≡◌ {A = ℕ} 0 1 = cc in omega arith)
       by_tests_lem false u v e f told = absurd (let z : ◌≡◌ {A = ℕ} 0 1 = cc in omega arith)
 
-  signed : (base : ℕ) (word : List ℕ) → stands s at (38 ∷ word) ≡ true → numbered_at base s (at + suc (length word)) ≡ Stands c next → Shown s at c next
+  signed : (base : ℕ) (word : List ℕ) → stands s at (38 ∷ word) ≡ true → numbered_at base s (at + suc (length word)) ≡ refers c next → Shown s at c next
   unfolding numbered_at
   signed base word t told =
       let shown = numbered_shown base (at + suc (length word)) _ (omega arith) told in
       record { forward = omega arith; inside = shown.1; sign = stands_first s at 38 word t; character = shown.2 }
 
-  step : (t : Bool) (x y : Reference) → (t ≡ true → x ≡ Stands c next → Shown s at c next) → (y ≡ Stands c next → Shown s at c next)
-      → cond t x y ≡ Stands c next → Shown s at c next
+  step : (t : Bool) (x y : Option Reference) → (t ≡ true → x ≡ refers c next → Shown s at c next) → (y ≡ refers c next → Shown s at c next)
+      → cond t x y ≡ refers c next → Shown s at c next
   step true x y f g e = f refl e
   step false x y f g e = g e
 
-  none : Nothing ≡ Stands c next → Shown s at c next
+  none : None ≡ refers c next → Shown s at c next
   none e = absurd (let z : ◌≡◌ {A = ℕ} 0 1 = cc in omega arith)
 
-  pub reference_shows : reference_at s at ≡ Stands c next → Shown s at c next
+  pub reference_shows : reference_at s at ≡ refers c next → Shown s at c next
   unfolding reference_at is_character
   reference_shows =
-      step (stands s at (text "&lt;")) (Stands 60 (at + 4)) _ (named (text "lt;") 60 refl)
-      (step (stands s at (text "&gt;")) (Stands 62 (at + 4)) _ (named (text "gt;") 62 refl)
-      (step (stands s at (text "&amp;")) (Stands 38 (at + 5)) _ (named (text "amp;") 38 refl)
-      (step (stands s at (text "&apos;")) (Stands 39 (at + 6)) _ (named (text "apos;") 39 refl)
-      (step (stands s at (text "&quot;")) (Stands 34 (at + 6)) _ (named (text "quot;") 34 refl)
+      step (stands s at (text "&lt;")) (refers 60 (at + 4)) _ (named (text "lt;") 60 refl)
+      (step (stands s at (text "&gt;")) (refers 62 (at + 4)) _ (named (text "gt;") 62 refl)
+      (step (stands s at (text "&amp;")) (refers 38 (at + 5)) _ (named (text "amp;") 38 refl)
+      (step (stands s at (text "&apos;")) (refers 39 (at + 6)) _ (named (text "apos;") 39 refl)
+      (step (stands s at (text "&quot;")) (refers 34 (at + 6)) _ (named (text "quot;") 34 refl)
       (step (stands s at (text "&#x")) (numbered_at 16 s (at + 3)) _ (signed 16 (text "#x"))
-      (step (stands s at (text "&#")) (numbered_at 10 s (at + 2)) Nothing (signed 10 (text "#"))
+      (step (stands s at (text "&#")) (numbered_at 10 s (at + 2)) None (signed 10 (text "#"))
       none))))))
 
-  pub reference_forward : reference_at s at ≡ Stands c next → (at < next) × (next ≤ length s) × (byte_at s at ≡ 38)
+  pub reference_forward : reference_at s at ≡ refers c next → (at < next) × (next ≤ length s) × (byte_at s at ≡ 38)
   reference_forward e = let shown = reference_shows e in (shown.forward, shown.inside, shown.sign)
 
-  pub reference_character : reference_at s at ≡ Stands c next → is_character c ≡ true
+  pub reference_character : reference_at s at ≡ refers c next → is_character c ≡ true
   reference_character e = (reference_shows e).character

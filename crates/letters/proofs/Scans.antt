@@ -1,6 +1,6 @@
 -- The laws of bytes, runs and words: what a loop at a place has left comes to what the whole comes to. Assumes nothing.
 use mathlib.Core.Path.{◌≡◌, refl, sym, ◌∙◌}
-use mathlib.Core.Bool.{Bool, true, false, cond, not}
+use mathlib.Core.Bool.{Bool, true, false, cond}
 use mathlib.Core.List.{List, [], ◌∷◌}
 use Prim.Native.Nat.{ℕ, zero, suc, ◌+◌, ◌-◌, ◌≤◌, ◌<◌}
 use native.Mathlib.Nat.{add-zero}
@@ -8,9 +8,9 @@ use native.Mathlib.Numerals.{add-one}
 use native.Mathlib.Omega.{arith}
 use lib.ListN.{length, drop, get_or, length-drop, drop_of_length-le, get_or-eq_default}
 use lib.Seq.{drop-cons, get_or-drop}
-use borrow.Author.Tests.{eq-eqb, ne_eqb, not-true, not-false}
+use borrow.Author.Tests.{eq-eqb, ne_eqb}
 use Rattle.letters.specs.Places.{byte_at, run, run_end, between, matches, expected}
-use Rattle.letters.specs.declared.Reach.TheVariants.{To, Broken}
+use Rattle.std.specs.Prelude.{Ok, Err}
 
 -- ---- past the end stands 0
 
@@ -39,18 +39,6 @@ module _ (f : ℕ → Bool) (s : List ℕ) (i : ℕ) where
   unfolding run
   run_ends h = rw (drop_of_length-le s h) (omega arith)
 
--- a loop at place i of a run that ends at place end, by what the code's test of the byte there came to
-module _ (f : ℕ → Bool) (s : List ℕ) (i end : ℕ) (left : run_end f s i ≡ end) where
-  module _ (h : i < length s) (t : Bool) (tested : t ≡ f (get_or s i 0)) where
-    pub loop_stops : not t ≡ true → i ≡ end
-    loop_stops out = run_stops f s i h (sym tested ∙ not-true t out) ∙ left
-
-    pub loop_goes_on : not t ≡ false → run_end f s (i + 1) ≡ end
-    loop_goes_on in-run = run_on f s i h (sym tested ∙ not-false t in-run) ∙ left
-
-  pub loop_ends : length s ≤ i → i ≡ end
-  loop_ends past = run_ends f s i past ∙ left
-
 -- a run is no longer than the text, and ends in it
 pub run_within : (f : ℕ → Bool) (t : List ℕ) → run f t ≤ length t
 unfolding run
@@ -67,15 +55,15 @@ run_inside f s at h = omega (arith, run_within f (drop at s), length-drop at s)
 -- ---- a word at place p, by its first byte
 
 module _ (s : List ℕ) (b : ℕ) (bs : List ℕ) (p : ℕ) where
-  pub word_short : length s ≤ p → expected s (b ∷ bs) p ≡ Broken p
+  pub word_short : length s ≤ p → expected s (b ∷ bs) p ≡ Err p
   unfolding matches
   word_short past = rw (drop_of_length-le s past)
 
-  pub word_other : (byte_at s p ≡ b → ⊥) → expected s (b ∷ bs) p ≡ Broken p
+  pub word_other : (byte_at s p ≡ b → ⊥) → expected s (b ∷ bs) p ≡ Err p
   unfolding matches
   word_other d = by_text (drop p s) (λ e. d (sym (get_or-drop p s 0 0 ∙ (rw add-zero)) ∙ e))
     where
-      by_text : (t : List ℕ) → (byte_at t 0 ≡ b → ⊥) → matches (b ∷ bs) t p ≡ Broken p
+      by_text : (t : List ℕ) → (byte_at t 0 ≡ b → ⊥) → matches (b ∷ bs) t p ≡ Err p
       by_text [] d = refl
       by_text (c ∷ cs) d = rw (ne_eqb c b d)
 
@@ -90,15 +78,15 @@ word_first s b bs p some e = word_on s b bs p (byte_there s p (omega arith)) e
 -- ---- a word that is compared from place i of it on, with the text from place p on
 
 module _ (s word : List ℕ) (p i : ℕ) where
-  pub match_ends : length word ≤ i → expected s (drop i word) p ≡ To p
+  pub match_ends : length word ≤ i → expected s (drop i word) p ≡ Ok p
   unfolding matches
   match_ends h = rw (drop_of_length-le word h)
 
   module _ (h : i < length word) where
-    pub match_short : length s ≤ p → expected s (drop i word) p ≡ Broken p
+    pub match_short : length s ≤ p → expected s (drop i word) p ≡ Err p
     match_short past = rw (drop-cons word i 0 h) (word_short s _ _ p past)
 
-    pub match_differs : (get_or s p 0 ≡ get_or word i 0 → ⊥) → expected s (drop i word) p ≡ Broken p
+    pub match_differs : (get_or s p 0 ≡ get_or word i 0 → ⊥) → expected s (drop i word) p ≡ Err p
     match_differs d = rw (drop-cons word i 0 h) (word_other s _ _ p d)
 
     pub match_on : p < length s → get_or s p 0 ≡ get_or word i 0 → expected s (drop i word) p ≡ expected s (drop (i + 1) word) (p + 1)
@@ -107,7 +95,7 @@ module _ (s word : List ℕ) (p i : ℕ) where
 -- ---- the part of a text up to place to, from place i on, looked for again at place p
 
 module _ (s : List ℕ) (to i p : ℕ) where
-  pub again_ends : to ≤ i → expected s (between s i to) p ≡ To p
+  pub again_ends : to ≤ i → expected s (between s i to) p ≡ Ok p
   unfolding matches
   again_ends h = let none : to - i ≡ 0 = omega arith in rw none
 
@@ -117,10 +105,10 @@ module _ (s : List ℕ) (to i p : ℕ) where
         let width : to - i ≡ suc (to - (i + 1)) = omega arith in
         rw (width, drop-cons s i 0 here, add-one i)
 
-    pub again_short : length s ≤ p → expected s (between s i to) p ≡ Broken p
+    pub again_short : length s ≤ p → expected s (between s i to) p ≡ Err p
     again_short past = rw between_more (word_short s _ _ p past)
 
-    pub again_differs : (byte_at s p ≡ byte_at s i → ⊥) → expected s (between s i to) p ≡ Broken p
+    pub again_differs : (byte_at s p ≡ byte_at s i → ⊥) → expected s (between s i to) p ≡ Err p
     again_differs d = rw between_more (word_other s _ _ p d)
 
     pub again_on : (j q : ℕ) → j ≡ i + 1 → q ≡ p + 1 → p < length s → byte_at s p ≡ byte_at s i → expected s (between s i to) p ≡ expected s (between s j to) q

@@ -6,9 +6,8 @@ use Prim.Native.Nat.{ℕ, zero, suc, ◌+◌, ◌≤◌, ◌<◌}
 use native.Mathlib.Omega.{arith}
 use lib.Dec.{eqb}
 use lib.ListN.{length}
-use Rattle.letters.specs.Places.{matches, on_reach, on_turn, walk_by, walk}
-use Rattle.letters.specs.declared.Reach.{Reach}
-use Rattle.letters.specs.declared.Reach.TheVariants.{To, Broken}
+use Rattle.letters.specs.Places.{matches, on_reach, on_turn, walk_by, walk, Reach}
+use Rattle.std.specs.Prelude.{Ok, Err}
 use Rattle.letters.specs.declared.Turn.{Turn}
 use Rattle.letters.specs.declared.Turn.TheVariants.{On, Ends, Breaks}
 
@@ -16,21 +15,21 @@ use Rattle.letters.specs.declared.Turn.TheVariants.{On, Ends, Breaks}
 
 pub record Went (r : Reach) (f : ℕ → Reach) (n : ℕ) : Type 0 where
   pub mid : ℕ
-  pub first : r ≡ To mid
-  pub then : f mid ≡ To n
+  pub first : r ≡ Ok mid
+  pub then : f mid ≡ Ok n
 
-pub went : (r : Reach) (f : ℕ → Reach) (n : ℕ) → on_reach r f ≡ To n → Went r f n
-went (To m) f n e = record { mid = m; first = refl; then = e }
-went (Broken p) f n e = absurd (let z : ◌≡◌ {A = ℕ} 0 1 = cc in omega arith)
+pub went : (r : Reach) (f : ℕ → Reach) (n : ℕ) → on_reach r f ≡ Ok n → Went r f n
+went (Ok m) f n e = record { mid = m; first = refl; then = e }
+went (Err p) f n e = absurd (let z : ◌≡◌ {A = ℕ} 0 1 = cc in omega arith)
 
 -- a word that stands ends so many bytes on
-pub match_forward : (word t : List ℕ) (at n : ℕ) → matches word t at ≡ To n → n ≡ at + length word
+pub match_forward : (word t : List ℕ) (at n : ℕ) → matches word t at ≡ Ok n → n ≡ at + length word
 unfolding matches
 match_forward [] t at n e = let same : at ≡ n = cc in omega arith
 match_forward (b ∷ bs) [] at n e = absurd (let z : ◌≡◌ {A = ℕ} 0 1 = cc in omega arith)
 match_forward (b ∷ bs) (c ∷ cs) at n e = by_test (match_forward bs cs (at + 1) n) (eqb c b) e
   where
-    by_test : (matches bs cs (at + 1) ≡ To n → n ≡ at + 1 + length bs) → (t : Bool) → cond t (matches bs cs (at + 1)) (Broken at) ≡ To n → n ≡ at + suc (length bs)
+    by_test : (matches bs cs (at + 1) ≡ Ok n → n ≡ at + 1 + length bs) → (t : Bool) → cond t (matches bs cs (at + 1)) (Err at) ≡ Ok n → n ≡ at + suc (length bs)
     by_test rest true told = omega (arith, rest told)
     by_test rest false told = absurd (let z : ◌≡◌ {A = ℕ} 0 1 = cc in omega arith)
 
@@ -43,12 +42,12 @@ pub record Onward (turn : ℕ → Turn) (end : ℕ) : Type 0 where
 
 module _ (turn : ℕ → Turn) (end : ℕ) (onward : Onward turn end) where
   -- a walk ends no earlier than it began
-  walk_on : (f at n : ℕ) → walk_by turn f at ≡ To n → at ≤ n
+  walk_on : (f at n : ℕ) → walk_by turn f at ≡ Ok n → at ≤ n
   unfolding walk_by
   walk_on zero at n e = absurd (let z : ◌≡◌ {A = ℕ} 0 1 = cc in omega arith)
   walk_on (suc f) at n e = by_turn (walk_on f) (turn at) refl e
     where
-      by_turn : ((at n : ℕ) → walk_by turn f at ≡ To n → at ≤ n) → (r : Turn) → turn at ≡ r → on_turn r (λ next. walk_by turn f next) ≡ To n → at ≤ n
+      by_turn : ((at n : ℕ) → walk_by turn f at ≡ Ok n → at ≤ n) → (r : Turn) → turn at ≡ r → on_turn r (λ next. walk_by turn f next) ≡ Ok n → at ≤ n
       by_turn rest (On next) e told = omega (arith, onward.forward at next e, rest next n told)
       by_turn rest (Ends m) e told = let same : m ≡ n = cc in omega (arith, onward.ending at m e)
       by_turn rest (Breaks p) e told = absurd (let z : ◌≡◌ {A = ℕ} 0 1 = cc in omega arith)
@@ -82,22 +81,22 @@ module _ (turn : ℕ → Turn) (s : List ℕ) (onward : Onward turn (length s)) 
       by_turn (Ends m) e = refl
       by_turn (Breaks p) e = refl
 
-  pub walk_forward : (at n : ℕ) → walk turn s at ≡ To n → at ≤ n
+  pub walk_forward : (at n : ℕ) → walk turn s at ≡ Ok n → at ≤ n
   unfolding walk
   walk_forward at n e = walk_on turn (length s) onward (suc (length s)) at n e
 
 -- what each end of a turn shows, the end of the walk does
 module _ (turn : ℕ → Turn) (P : ℕ → Type 0) (ends : (i n : ℕ) → turn i ≡ Ends n → P n) where
-  walk_last : (f at n : ℕ) → walk_by turn f at ≡ To n → P n
+  walk_last : (f at n : ℕ) → walk_by turn f at ≡ Ok n → P n
   unfolding walk_by
   walk_last zero at n e = absurd (let z : ◌≡◌ {A = ℕ} 0 1 = cc in omega arith)
   walk_last (suc f) at n e = by_turn (walk_last f) (turn at) refl e
     where
-      by_turn : ((at n : ℕ) → walk_by turn f at ≡ To n → P n) → (r : Turn) → turn at ≡ r → on_turn r (λ next. walk_by turn f next) ≡ To n → P n
+      by_turn : ((at n : ℕ) → walk_by turn f at ≡ Ok n → P n) → (r : Turn) → turn at ≡ r → on_turn r (λ next. walk_by turn f next) ≡ Ok n → P n
       by_turn rest (On next) e told = rest next n told
       by_turn rest (Ends m) e told = let same : m ≡ n = cc in rw same at (ends at m e)
       by_turn rest (Breaks p) e told = absurd (let z : ◌≡◌ {A = ℕ} 0 1 = cc in omega arith)
 
-  pub walk_shows : (s : List ℕ) (at n : ℕ) → walk turn s at ≡ To n → P n
+  pub walk_shows : (s : List ℕ) (at n : ℕ) → walk turn s at ≡ Ok n → P n
   unfolding walk
   walk_shows s at n e = walk_last (suc (length s)) at n e

@@ -1,10 +1,12 @@
 -- What stands at a place of a text, and how a text is walked. Total: past the end stands 0, which is of no form. Assumes nothing.
-use Rattle.std.specs.Prelude.{ℕ, zero, suc, ◌+◌, ◌-◌, Bool, true, false, cond, ◌&&◌, List, [], ◌∷◌, length, drop, get_or, leb, eqb}
+use Rattle.std.specs.Prelude.{ℕ, zero, suc, ◌+◌, ◌-◌, Bool, cond, ◌&&◌, List, [], ◌∷◌, length, drop, get_or, leb, eqb, Result, Ok, Err}
 use Rattle.wire.specs.Field.{part}
-use Rattle.letters.specs.declared.Reach.{Reach}
-use Rattle.letters.specs.declared.Reach.TheVariants.{To, Broken}
 use Rattle.letters.specs.declared.Turn.{Turn}
 use Rattle.letters.specs.declared.Turn.TheVariants.{On, Ends, Breaks}
+
+-- where something ends, or the place at which its form is broken
+abbrev pub Reach : Type 0
+Reach = Result ℕ ℕ
 
 abbrev pub byte_at : List ℕ → ℕ → ℕ
 byte_at s at = get_or s at 0
@@ -31,32 +33,32 @@ between s from to = part s from (to - from)
 
 -- the word stands here, and what is after it; or the first place at which it does not
 unfoldable pub matches : List ℕ → List ℕ → ℕ → Reach
-matches [] t at = To at
-matches (b ∷ bs) [] at = Broken at
-matches (b ∷ bs) (c ∷ cs) at = cond (eqb c b) (matches bs cs (at + 1)) (Broken at)
+matches [] t at = Ok at
+matches (b ∷ bs) [] at = Err at
+matches (b ∷ bs) (c ∷ cs) at = cond (eqb c b) (matches bs cs (at + 1)) (Err at)
 
 abbrev pub expected : List ℕ → List ℕ → ℕ → Reach
 expected s word at = matches word (drop at s) at
 
 abbrev pub on_reach : Reach → (ℕ → Reach) → Reach
-on_reach (To n) f = f n
-on_reach (Broken p) f = Broken p
+on_reach (Ok n) f = f n
+on_reach (Err p) f = Err p
 
 -- ---- a walk: turn by turn, each from the place that the one before led to
 
 abbrev pub on_turn : Turn → (ℕ → Reach) → Reach
 on_turn (On next) f = f next
-on_turn (Ends e) f = To e
-on_turn (Breaks p) f = Broken p
+on_turn (Ends e) f = Ok e
+on_turn (Breaks p) f = Err p
 
 -- where something that was read leads on to, or breaks
 abbrev pub going : Reach → Turn
-going (To n) = On n
-going (Broken p) = Breaks p
+going (Ok n) = On n
+going (Err p) = Breaks p
 
 -- at most n turns
 unfoldable pub walk_by : (ℕ → Turn) → ℕ → ℕ → Reach
-walk_by turn zero at = Broken at
+walk_by turn zero at = Err at
 walk_by turn (suc n) at = on_turn (turn at) (λ next. walk_by turn n next)
 
 -- a turn that goes on begins in the text and ends after where it began, so that there are no more of them than bytes, and one that does not

@@ -1,10 +1,13 @@
 -- References: what stands for a character. Assumes nothing.
-use Rattle.std.specs.Prelude.{ℕ, ◌+◌, ◌*◌, ◌-◌, Bool, cond, List, [], ◌∷◌, length, leb, ltb, eqb}
+use Rattle.std.specs.Prelude.{ℕ, ◌+◌, ◌*◌, ◌-◌, Bool, cond, List, [], ◌∷◌, length, ltb, eqb, Option, Some, None}
 use Rattle.wire.specs.Field.{text, part, same}
 use Rattle.letters.specs.Places.{byte_at, within, run_end, between}
 use Rattle.letters.specs.Characters.{is_character}
 use Rattle.letters.specs.declared.Reference.{Reference}
-use Rattle.letters.specs.declared.Reference.TheVariants.{Stands, Nothing}
+
+-- the reference to a character by its number, and the place after it
+abbrev pub refers : ℕ → ℕ → Option Reference
+refers c next = Some (record { character = c; next = next })
 
 -- what a digit counts; 99 for what is none
 unfoldable pub digit_of : ℕ → ℕ
@@ -25,28 +28,28 @@ abbrev pub numeral : ℕ → List ℕ → ℕ
 numeral base s = numeral_from base 0 s
 
 -- a character's number and what is after it, where digits stand from one place up to another and a semicolon follows
-abbrev pub numbered : ℕ → List ℕ → ℕ → ℕ → Reference
+abbrev pub numbered : ℕ → List ℕ → ℕ → ℕ → Option Reference
 numbered base s from to =
     cond (ltb from to)
     (cond (eqb (byte_at s to) 59)
-    (cond (is_character (numeral base (between s from to))) (Stands (numeral base (between s from to)) (to + 1)) Nothing)
-    Nothing)
-    Nothing
+    (cond (is_character (numeral base (between s from to))) (refers (numeral base (between s from to)) (to + 1)) None)
+    None)
+    None
 
-unfoldable pub numbered_at : ℕ → List ℕ → ℕ → Reference
+unfoldable pub numbered_at : ℕ → List ℕ → ℕ → Option Reference
 numbered_at base s from = numbered base s from (run_end (digit_in base) s from)
 
 -- the word stands at the place
 abbrev pub stands : List ℕ → ℕ → List ℕ → Bool
 stands s at word = same (part s at (length word)) word
 
-unfoldable pub reference_at : List ℕ → ℕ → Reference
+unfoldable pub reference_at : List ℕ → ℕ → Option Reference
 reference_at s at =
-    cond (stands s at (text "&lt;")) (Stands 60 (at + 4))
-    (cond (stands s at (text "&gt;")) (Stands 62 (at + 4))
-    (cond (stands s at (text "&amp;")) (Stands 38 (at + 5))
-    (cond (stands s at (text "&apos;")) (Stands 39 (at + 6))
-    (cond (stands s at (text "&quot;")) (Stands 34 (at + 6))
+    cond (stands s at (text "&lt;")) (refers 60 (at + 4))
+    (cond (stands s at (text "&gt;")) (refers 62 (at + 4))
+    (cond (stands s at (text "&amp;")) (refers 38 (at + 5))
+    (cond (stands s at (text "&apos;")) (refers 39 (at + 6))
+    (cond (stands s at (text "&quot;")) (refers 34 (at + 6))
     (cond (stands s at (text "&#x")) (numbered_at 16 s (at + 3))
     (cond (stands s at (text "&#")) (numbered_at 10 s (at + 2))
-    Nothing))))))
+    None))))))

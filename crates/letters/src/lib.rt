@@ -1,18 +1,16 @@
 // What stands at a place of a text: bytes, words, characters in UTF-8, references. Every function takes any text and any place.
 #![tactic(auto)]
 
-ghost use Rattle.std.specs.Prelude.{◌≡◌, ◌+◌, ◌≤◌, ◌<◌, min, length};
+ghost use Rattle.std.specs.Prelude.{ℕ, ◌+◌, ◌^◌, Bool, ◌≡◌, ◌≤◌, ◌<◌, min, length};
 ghost use Rattle.std.proofs.lemmas.List.Edits.{sets};
-ghost use Rattle.letters.specs.Places.{byte_at, within, run_end, expected};
+ghost use Rattle.letters.specs.Places.{Reach, byte_at, within, run_end, on_turn, expected};
+ghost use Rattle.letters.specs.declared.Turn.{Turn};
+ghost use Rattle.letters.specs.declared.Turn.TheVariants.{On};
 ghost use Rattle.letters.specs.Characters.{is_character, single, double, triple, quadruple, width_of, width_at, encoded};
-ghost use Rattle.letters.specs.References.{digit_of, digit_in, numeral, numbered_at, stands, reference_at};
+ghost use Rattle.letters.specs.References.{digit_of, digit_in, numeral, numbered_at, stands, reference_at, refers};
 
 // Where something ends, or the place at which its form is broken.
-#[derive(Clone, Copy)]
-pub enum Reach {
-    To(usize),
-    Broken(usize),
-}
+pub type Reach = Result<usize, usize>;
 
 // One turn of a walk: it goes on from a place, ends at one, or breaks there.
 #[derive(Clone, Copy)]
@@ -24,9 +22,9 @@ pub enum Turn {
 
 // A reference: the number of the character that it stands for, and the place after it.
 #[derive(Clone, Copy)]
-pub enum Reference {
-    Stands(usize, usize),
-    Nothing,
+pub struct Reference {
+    pub character: usize,
+    pub next: usize,
 }
 
 // The byte at a place, or 0.
@@ -36,23 +34,63 @@ pub fn byte_at(s: &[u8], at: usize) -> u8
     if at < s.len() { s[at] } else { 0 }
 }
 
+// A kind of bytes.
+pub trait Bytes {
+    ghost holds: { Self → ℕ → Bool };
+
+    fn has(&self, b: u8) -> bool
+        ensures { result ≡ holds self.now b };
+}
+
+// The place after the bytes of a kind that stand from a place on.
+pub fn run_end<B: Bytes + Copy>(s: &[u8], at: usize, kind: B) -> usize
+    ensures { result ≡ run_end (B.holds kind) s.now at }
+{
+    if s.len() <= at {
+        return at;
+    }
+    for i in at..s.len() {
+        if !kind.has(s[i]) {
+            return i;
+        }
+    }
+    s.len()
+}
+
+// Where a walk ends that goes on turn by turn, each from the place that the one before led to; or where it breaks.
+pub fn walk<F: Fn(usize) -> Turn>(s: &[u8], at: usize, turn: F) -> Reach
+    requires callable { F.IsAlwaysCallable turn }
+    requires onward { (i n : ℕ) → i < 2 ^ 64 → F.post turn i (On n) → (i < n) × (i < length s.now) }
+    ensures { (reach : ℕ → Reach) → ((i : ℕ) (t : Turn) → i < 2 ^ 64 → F.post turn i t → on_turn t reach ≡ reach i) → result ≡ reach at }
+{
+    let mut i = at;
+    loop {
+        match turn(i) {
+            Turn::On(next) => {
+                i = next;
+            }
+            Turn::Ends(e) => {
+                return Ok(e);
+            }
+            Turn::Breaks(p) => {
+                return Err(p);
+            }
+        }
+    }
+}
+
 // Whether the word stands at the place; if not, the first place at which it does not.
 pub fn expect(s: &[u8], word: &[u8], at: usize) -> Reach
     ensures { result ≡ expected s.now word.now at }
 {
     let mut p = at;
-    let mut i = 0;
-    while i < word.len() {
-        if s.len() <= p {
-            return Reach::Broken(p);
-        }
-        if s[p] != word[i] {
-            return Reach::Broken(p);
+    for b in word {
+        if s.len() <= p || s[p] != *b {
+            return Err(p);
         }
         p += 1;
-        i += 1;
     }
-    Reach::To(p)
+    Ok(p)
 }
 
 // Whether the word stands at the place.
@@ -83,6 +121,7 @@ fn is_double(a: u8, b: u8) -> bool
     within(194, 223, a) & within(128, 191, b)
 }
 
+// The bytes stay parameters, as `triple` and `quadruple` take them.
 fn is_triple(a: u8, b: u8, c: u8) -> bool
     ensures { result ≡ triple a b c }
 {
@@ -105,7 +144,8 @@ fn is_quadruple(a: u8, b: u8, c: u8, d: u8) -> bool
         & !((a == 244) & (144 <= b))
 }
 
-// How many bytes the character takes that these begin with, or 0.
+// How many bytes the character takes that these begin with, or 0, as the definition of its name has it.
+#[tactic(auto, unfolding(crate::specs::Characters::width_of))]
 fn width_of(a: u8, b: u8, c: u8, d: u8) -> usize
     ensures { result ≡ width_of a b c d }
 {
@@ -132,6 +172,7 @@ fn byte_after(s: &[u8], at: usize, n: usize) -> u8
 }
 
 // How many bytes the character at a place takes, or 0 where there is none.
+#[tactic(auto, unfolding(crate::specs::Characters::width_at))]
 pub fn width_at(s: &[u8], at: usize) -> usize
     ensures { result ≡ width_at s.now at }
 {
@@ -148,6 +189,7 @@ pub fn width_at(s: &[u8], at: usize) -> usize
 }
 
 // Whether a number is that of a character.
+#[tactic(auto, unfolding(crate::specs::Characters::is_character))]
 fn is_character(c: usize) -> bool
     ensures { result ≡ is_character c }
 {
@@ -160,6 +202,7 @@ fn is_character(c: usize) -> bool
 }
 
 // How many bytes a character takes.
+#[tactic(auto, unfolding(crate::specs::Characters::encoded))]
 pub fn character_width(c: usize) -> usize
     ensures { result ≡ length (encoded c) }
 {
@@ -173,6 +216,7 @@ pub fn character_width(c: usize) -> usize
 }
 
 // Writes a character from place at on.
+#[tactic(auto, unfolding(crate::specs::Characters::encoded))]
 pub fn put_character(d: &mut [u8], at: usize, c: usize)
     ensures { d.new ≡ sets d.old at (encoded c) }
 {
@@ -207,7 +251,8 @@ pub fn put_character(d: &mut [u8], at: usize, c: usize)
 // No character has a number as high as this.
 const LIMIT: usize = 1114112;
 
-// What a digit counts, or 99.
+// What a digit counts, or 99, as the definition of its name has it.
+#[tactic(auto, unfolding(crate::specs::References::digit_of))]
 fn digit_of(b: u8) -> usize
     ensures { (result ≡ digit_of b) × (result < 100) }
 {
@@ -224,18 +269,18 @@ fn digit_of(b: u8) -> usize
     }
 }
 
-// The place after the digits that stand from a place on.
-fn digits_end(s: &[u8], at: usize, base: usize) -> usize
-    ensures { result ≡ run_end (digit_in base) s.now at }
-{
-    let mut i = at;
-    while i < s.len() {
-        if base <= digit_of(s[i]) {
-            return i;
-        }
-        i += 1;
+// The digits to a base.
+#[derive(Clone, Copy)]
+struct Digit {
+    base: usize,
+}
+
+impl Bytes for Digit {
+    ghost holds = { λ self. digit_in self.base };
+
+    fn has(&self, b: u8) -> bool {
+        digit_of(b) < self.base
     }
-    i
 }
 
 // The number that digits write; of one that is too high for a character, that it is.
@@ -244,52 +289,58 @@ fn numeral(s: &[u8], base: usize) -> usize
     ensures { result ≡ min (numeral base s.now) 1114112 }
 {
     let mut v = 0;
-    let mut i = 0;
-    while i < s.len() {
-        v = wire::least(v * base + digit_of(s[i]), LIMIT);
-        i += 1;
+    for b in s {
+        v = wire::least(v * base + digit_of(*b), LIMIT);
     }
     v
 }
 
+// The reference to a character by its number, and the place after it.
+fn refers(character: usize, next: usize) -> Option<Reference>
+    ensures { result ≡ refers character next }
+{
+    Some(Reference { character, next })
+}
+
 // Digits from a place on, and a semicolon.
-fn numbered_at(s: &[u8], from: usize, base: usize) -> Reference
+fn numbered_at(s: &[u8], from: usize, base: usize) -> Option<Reference>
     requires { (0 < base) × (base ≤ 16) }
     ensures { result ≡ numbered_at base s.now from }
 {
-    let to = digits_end(s, from, base);
+    let to = run_end(s, from, Digit { base });
     if to <= from {
-        return Reference::Nothing;
+        return None;
     }
     if byte_at(s, to) != b';' {
-        return Reference::Nothing;
+        return None;
     }
     let c = numeral(wire::text_at(s, from, to - from), base);
     if is_character(c) {
-        Reference::Stands(c, to + 1)
+        refers(c, to + 1)
     } else {
-        Reference::Nothing
+        None
     }
 }
 
 // The reference at a place: one of five names, or a number to the base 16 or 10.
-pub fn reference_at(s: &[u8], at: usize) -> Reference
+#[tactic(auto, unfolding(crate::specs::References::reference_at))]
+pub fn reference_at(s: &[u8], at: usize) -> Option<Reference>
     ensures { result ≡ reference_at s.now at }
 {
     if stands_at(s, at, b"&lt;") {
-        return Reference::Stands(60, at + 4);
+        return refers(60, at + 4);
     }
     if stands_at(s, at, b"&gt;") {
-        return Reference::Stands(62, at + 4);
+        return refers(62, at + 4);
     }
     if stands_at(s, at, b"&amp;") {
-        return Reference::Stands(38, at + 5);
+        return refers(38, at + 5);
     }
     if stands_at(s, at, b"&apos;") {
-        return Reference::Stands(39, at + 6);
+        return refers(39, at + 6);
     }
     if stands_at(s, at, b"&quot;") {
-        return Reference::Stands(34, at + 6);
+        return refers(34, at + 6);
     }
     if stands_at(s, at, b"&#x") {
         return numbered_at(s, at + 3, 16);
@@ -297,5 +348,5 @@ pub fn reference_at(s: &[u8], at: usize) -> Reference
     if stands_at(s, at, b"&#") {
         return numbered_at(s, at + 2, 10);
     }
-    Reference::Nothing
+    None
 }

@@ -27,10 +27,8 @@ fn put_shown(out: &mut [u8], at: usize, s: &[u8]) -> usize
     ensures { Printed out.old out.new at result (map shown s.now) }
 {
     let mut next = wire::least(at, out.len());
-    let mut i = 0;
-    while i < s.len() {
-        next = decimals::put_byte(out, next, shown(s[i]));
-        i += 1;
+    for c in s {
+        next = decimals::put_byte(out, next, shown(*c));
     }
     next
 }

@@ -3,49 +3,48 @@ use mathlib.Core.Path.{◌≡◌, refl}
 use mathlib.Core.List.{List, [], ◌∷◌, map}
 use Prim.Native.Nat.{ℕ}
 use Prim.Native.String.{String}
+use Rattle.std.specs.Prelude.{Option, Some, None}
 use Rattle.wire.specs.Field.{text}
 use Rattle.meanings.specs.Meanings.{number_meant, amount_meant, date_meant, filled, receiver}
 use Rattle.meanings.specs.Written.{decimal_text, amount_text, date_text}
-use Rattle.meanings.specs.declared.Meant.{Meant}
-use Rattle.meanings.specs.declared.Meant.TheVariants.{Is, Nothing}
 use Rattle.meanings.proofs.Computing.{meanings_compute}
 
 -- what a text means, and what it has to mean
 record Case : Type 0 where
-  says : Meant
-  right : Meant
+  says : Option ℕ
+  right : Option ℕ
 
-number : String → Meant → Case
+number : String → Option ℕ → Case
 number s r = record { says = number_meant (text s); right = r }
 
-amount : String → Meant → Case
+amount : String → Option ℕ → Case
 amount s r = record { says = amount_meant (text s); right = r }
 
-date : String → Meant → Case
+date : String → Option ℕ → Case
 date s r = record { says = date_meant (text s); right = r }
 
 cases : List Case
 cases =
     -- 1 to 15 digits, and nothing else
-    number "0" (Is 0) ∷ number "1" (Is 1) ∷ number "007" (Is 7) ∷ number "999999999999999" (Is 999999999999999)
-    ∷ number "" Nothing ∷ number "1000000000000000" Nothing ∷ number "0000000000000000" Nothing ∷ number "-1" Nothing
-    ∷ number "+1" Nothing ∷ number " 1" Nothing ∷ number "1 " Nothing ∷ number "1.0" Nothing ∷ number "1a" Nothing ∷ number "a1" Nothing
-    ∷ number "A" Nothing ∷ number "/" Nothing ∷ number ":" Nothing
+    number "0" (Some 0) ∷ number "1" (Some 1) ∷ number "007" (Some 7) ∷ number "999999999999999" (Some 999999999999999)
+    ∷ number "" None ∷ number "1000000000000000" None ∷ number "0000000000000000" None ∷ number "-1" None
+    ∷ number "+1" None ∷ number " 1" None ∷ number "1 " None ∷ number "1.0" None ∷ number "1a" None ∷ number "a1" None
+    ∷ number "A" None ∷ number "/" None ∷ number ":" None
     -- with a point and without
-    ∷ amount "0.01" (Is 1) ∷ amount "0.10" (Is 10) ∷ amount "1" (Is 100) ∷ amount "12.5" (Is 1250) ∷ amount "12.50" (Is 1250)
-    ∷ amount "5." (Is 500) ∷ amount ".5" (Is 50) ∷ amount ".05" (Is 5) ∷ amount "0" (Is 0) ∷ amount "00" (Is 0)
+    ∷ amount "0.01" (Some 1) ∷ amount "0.10" (Some 10) ∷ amount "1" (Some 100) ∷ amount "12.5" (Some 1250) ∷ amount "12.50" (Some 1250)
+    ∷ amount "5." (Some 500) ∷ amount ".5" (Some 50) ∷ amount ".05" (Some 5) ∷ amount "0" (Some 0) ∷ amount "00" (Some 0)
     -- a digit there must be, and no more than two behind the point
-    ∷ amount "." Nothing ∷ amount "" Nothing ∷ amount "1.234" Nothing ∷ amount "1.000" Nothing ∷ amount ".." Nothing ∷ amount "1.2.3" Nothing
-    ∷ amount "1,50" Nothing ∷ amount "1.5a" Nothing ∷ amount "1.a" Nothing ∷ amount "-1" Nothing ∷ amount " 1" Nothing ∷ amount "1e2" Nothing
+    ∷ amount "." None ∷ amount "" None ∷ amount "1.234" None ∷ amount "1.000" None ∷ amount ".." None ∷ amount "1.2.3" None
+    ∷ amount "1,50" None ∷ amount "1.5a" None ∷ amount "1.a" None ∷ amount "-1" None ∷ amount " 1" None ∷ amount "1e2" None
     -- up to 18 digits, and cents below 2^64
-    ∷ amount "9999999999999999.99" (Is 999999999999999999) ∷ amount "99999999999999999.9" (Is 9999999999999999990)
-    ∷ amount "184467440737095516" (Is 18446744073709551600) ∷ amount "184467440737095516." (Is 18446744073709551600)
-    ∷ amount "184467440737095517" Nothing ∷ amount "184467440737095516.15" Nothing ∷ amount "184467440737095516.1" Nothing
-    ∷ amount "999999999999999999" Nothing ∷ amount "0000000000000000001" Nothing ∷ amount "000000000000000001" (Is 100)
+    ∷ amount "9999999999999999.99" (Some 999999999999999999) ∷ amount "99999999999999999.9" (Some 9999999999999999990)
+    ∷ amount "184467440737095516" (Some 18446744073709551600) ∷ amount "184467440737095516." (Some 18446744073709551600)
+    ∷ amount "184467440737095517" None ∷ amount "184467440737095516.15" None ∷ amount "184467440737095516.1" None
+    ∷ amount "999999999999999999" None ∷ amount "0000000000000000001" None ∷ amount "000000000000000001" (Some 100)
     -- eight digits and two dashes, whatever they say
-    ∷ date "2026-06-15" (Is 20260615) ∷ date "0000-00-00" (Is 0) ∷ date "9999-99-99" (Is 99999999)
-    ∷ date "2026-6-15" Nothing ∷ date "20260615" Nothing ∷ date "2026-06-15Z" Nothing ∷ date "2026/06/15" Nothing ∷ date "2026-06/15" Nothing
-    ∷ date "2026-06-1x" Nothing ∷ date "2026-0x-15" Nothing ∷ date "x026-06-15" Nothing ∷ date "" Nothing ∷ date " 026-06-15" Nothing
+    ∷ date "2026-06-15" (Some 20260615) ∷ date "0000-00-00" (Some 0) ∷ date "9999-99-99" (Some 99999999)
+    ∷ date "2026-6-15" None ∷ date "20260615" None ∷ date "2026-06-15Z" None ∷ date "2026/06/15" None ∷ date "2026-06/15" None
+    ∷ date "2026-06-1x" None ∷ date "2026-0x-15" None ∷ date "x026-06-15" None ∷ date "" None ∷ date " 026-06-15" None
     ∷ []
 
 cases_right : map (λ c. c.says) cases ≡ map (λ c. c.right) cases

@@ -1,6 +1,6 @@
 -- The laws of decimal digits: which bytes they are, runs of them, and the number that they write. Assumes nothing.
 use mathlib.Core.Path.{◌≡◌, refl, sym, ap, ◌∙◌}
-use mathlib.Core.Bool.{Bool, true, false, cond, ◌&&◌, ◌||◌, false≢true, and_assoc, and-eq-true_iff}
+use mathlib.Core.Bool.{Bool, true, false, cond, ◌&&◌, ◌||◌, and_assoc, and-eq-true_iff}
 use mathlib.Core.List.{List, [], ◌∷◌, ◌++◌}
 use Prim.Native.Nat.{ℕ, zero, suc, ◌+◌, ◌-◌, ◌*◌, ◌^◌, ◌≤◌, ◌<◌}
 use native.Mathlib.Nat.{pow-zero, pow-suc, pow-le-pow_right, lt_of_lt_of_le, mul_comm, zero-mul, zero-add}
@@ -11,6 +11,7 @@ use lib.Dec.{leb, ltb, eqb, lit<, eqb-suc-suc, eqb-zero-suc}
 use lib.ListN.{length, get_or, take}
 use lib.Seq.{take-suc}
 use borrow.Author.Tests.{lt-ltb, le-ltb, le-leb, lt-leb, ltb-true, ltb-false, leb-true}
+use Rattle.std.specs.Char.{is_ascii_digit}
 use Rattle.letters.specs.Places.{within, run}
 use Rattle.letters.specs.References.{digit_of, numeral_from}
 use Rattle.meanings.specs.Meanings.{digit, digits, decimal}
@@ -46,12 +47,13 @@ digit_false b e = le-ltb (digit_of b) 10 (counts_more b (by_test (ltb b 48) refl
     by_test true eu h = rw (lt-leb 48 b (ltb-true b 48 eu))
     by_test false eu h = rw (le-leb 48 b (ltb-false b 48 eu), lt-leb b 57 (ltb-true 57 b h))
 
-pub digit_passed : (b : ℕ) → (ltb b 48 || ltb 57 b) ≡ false → digit b ≡ true
-digit_passed b e = by_test (ltb b 48) refl e
+-- std's digits are these
+pub digit_ascii : (b : ℕ) → is_ascii_digit b ≡ digit b
+digit_ascii b = by_test (within 48 57 b) refl
   where
-    by_test : (u : Bool) → ltb b 48 ≡ u → (u || ltb 57 b) ≡ false → digit b ≡ true
-    by_test true eu h = absurd (false≢true (sym h))
-    by_test false eu h = digit_true b (ltb-false b 48 eu) (ltb-false 57 b h)
+    by_test : (t : Bool) → within 48 57 b ≡ t → is_ascii_digit b ≡ digit b
+    by_test true e = let both = within_true 48 57 b e in e ∙ sym (digit_true b both.0 both.1)
+    by_test false e = e ∙ sym (le-ltb (digit_of b) 10 (counts_more b e))
 
 pub digit_bounds : (b : ℕ) → digit b ≡ true → (48 ≤ b) × (b ≤ 57)
 digit_bounds b e = by_test (within 48 57 b) refl

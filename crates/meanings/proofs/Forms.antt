@@ -9,13 +9,12 @@ use native.Mathlib.Omega.{arith}
 use lib.Dec.{leb, ltb, eqb, lit<}
 use lib.ListN.{length, take, drop, replicate, length-append}
 use borrow.Author.Tests.{leb-true, ltb-true, eqb-true}
+use Rattle.std.specs.Prelude.{Option, Some, None}
 use Rattle.wire.specs.Field.{part}
 use Rattle.wire.proofs.Texts.{part_length, rest_read}
 use Rattle.letters.specs.Places.{byte_at, run}
 use Rattle.letters.specs.References.{digit_of, numeral_from}
 use Rattle.meanings.specs.Meanings.{digit, digits, decimal, is_number, wholes, parts, cents, amount_digits, is_amount, amount_meant, date_digits, is_date, date_number, meant_if}
-use Rattle.meanings.specs.declared.Meant.{Meant}
-use Rattle.meanings.specs.declared.Meant.TheVariants.{Is, Nothing}
 use Rattle.meanings.proofs.Decimals.{digits_append, decimal_append, decimal_below, run_digits}
 
 both : (a b : Bool) → (a && b) ≡ true → (a ≡ true) × (b ≡ true)
@@ -23,10 +22,10 @@ both a b e = (and-eq-true_iff a b).0 e
 
 -- ---- what a test leaves
 
-pub meant_is : (test : Bool) (r n : ℕ) → test ≡ true → r ≡ n → Is r ≡ meant_if test n
+pub meant_is : (test : Bool) (r n : ℕ) → test ≡ true → r ≡ n → Some r ≡ meant_if test n
 meant_is test r n e same = rw (e, same)
 
-pub meant_nothing : (test : Bool) (n : ℕ) → test ≡ false → Nothing ≡ meant_if test n
+pub meant_nothing : (test : Bool) (n : ℕ) → test ≡ false → None ≡ meant_if test n
 meant_nothing test n e = rw e
 
 pub decimal_small : (t : List ℕ) (n : ℕ) → digits t ≡ true → length t ≤ n → decimal t < 10 ^ n
@@ -109,7 +108,7 @@ module _ (t : List ℕ) (n : ℕ) (w p : List ℕ) (b : ℕ) (d : Bool) (en : n 
       let front = both (point && d) (leb (length p) 2) (both short (leb 1 count) (both (short && leb 1 count) (leb count 18) e).0).0 in
       (sym ed ∙ (both point d front.0).1, leb-true (length p) 2 front.1)
 
-  pub amount_told : tested ≡ true → (whole rest : ℕ) (r : Meant) → whole ≡ decimal w → rest ≡ decimal (take 2 (p ++ replicate 2 48))
+  pub amount_told : tested ≡ true → (whole rest : ℕ) (r : Option ℕ) → whole ≡ decimal w → rest ≡ decimal (take 2 (p ++ replicate 2 48))
       → r ≡ meant_if (ltb (whole * 100 + rest) (2 ^ 64)) (whole * 100 + rest) → r ≡ amount_meant t
   unfolding is_amount cents
   amount_told e whole rest r ewhole erest er =
@@ -117,7 +116,7 @@ module _ (t : List ℕ) (n : ℕ) (w p : List ℕ) (b : ℕ) (d : Bool) (en : n 
       let form : formed t ≡ true = sym same_test ∙ e in
       er ∙ (rw (sum, form))
 
-  pub amount_nothing : tested ≡ false → Nothing ≡ amount_meant t
+  pub amount_nothing : tested ≡ false → None ≡ amount_meant t
   unfolding is_amount
   amount_nothing e = let form : formed t ≡ false = sym same_test ∙ e in rw form
 

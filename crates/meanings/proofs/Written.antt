@@ -12,6 +12,7 @@ use lib.Dec.{eqb, lit<}
 use lib.ListN.{length, take, drop, replicate, length-append, replicate-append-replicate}
 use lib.Seq.{take_at, get_or_at}
 use borrow.Author.Tests.{lt-ltb, le-leb, eqb-true}
+use Rattle.std.specs.Prelude.{Some}
 use Rattle.wire.proofs.Sides.{le_or_lt}
 use Rattle.letters.specs.Places.{byte_at, run}
 use Rattle.letters.specs.References.{digit_of}
@@ -22,7 +23,6 @@ use Rattle.decimals.proofs.Decimals.{one_digit, more_digits, width_one, width_mo
 use Rattle.decimals.proofs.Lengths.{decimal_short}
 use Rattle.meanings.specs.Meanings.{digit, digits, decimal, is_number, number_meant, wholes, parts, cents, amount_digits, is_amount, amount_meant, date_digits, is_date, date_number, date_meant, filled}
 use Rattle.meanings.specs.Written.{decimal_text, amount_text, date_text}
-use Rattle.meanings.specs.declared.Meant.TheVariants.{Is}
 use Rattle.meanings.proofs.Decimals.{digit_counts, digit_true, digit_false, digits_cons, digits_none, digits_both, digits_append, decimal_none, decimal_snoc, decimal_append}
 
 -- ---- one digit
@@ -85,7 +85,7 @@ printed_some n = (printed_by (suc n) n (omega arith)).2
 
 -- ---- numbers
 
-pub number_written : (n : ℕ) → n < 10 ^ 15 → number_meant (decimal_text n) ≡ Is n
+pub number_written : (n : ℕ) → n < 10 ^ 15 → number_meant (decimal_text n) ≡ Some n
 unfolding is_number
 number_written n h =
     let short = decimal_short 14 n h in
@@ -104,12 +104,12 @@ drop_past [] b ys = refl
 drop_past (x ∷ xs) b ys = drop_past xs b ys
 
 amount_of_lem : (t : List ℕ) (n : ℕ) → byte_at t (run digit t) ≡ 46 → digits (parts t) ≡ true → length (parts t) ≤ 2 → 1 ≤ amount_digits t → amount_digits t ≤ 18
-    → cents t ≡ n → n < 2 ^ 64 → amount_meant t ≡ Is n
+    → cents t ≡ n → n < 2 ^ 64 → amount_meant t ≡ Some n
 unfolding is_amount
 amount_of_lem t n point all few some short value fits =
     rw (point, or-true (digits t), all, le-leb (length (parts t)) 2 few, le-leb 1 (amount_digits t) some, le-leb (amount_digits t) 18 short, value, lt-ltb n (2 ^ 64) fits)
 
-pub amount_written : (n : ℕ) → n < 10 ^ 18 → amount_meant (amount_text n) ≡ Is n
+pub amount_written : (n : ℕ) → n < 10 ^ 18 → amount_meant (amount_text n) ≡ Some n
 unfolding amount_text cents
 amount_written n h =
     let t = amount_text n in
@@ -128,7 +128,7 @@ amount_written n h =
 
 -- ---- dates
 
-date_of_lem : (t : List ℕ) (n : ℕ) → length t ≡ 10 → digits (date_digits t) ≡ true → byte_at t 4 ≡ 45 → byte_at t 7 ≡ 45 → date_number t ≡ n → date_meant t ≡ Is n
+date_of_lem : (t : List ℕ) (n : ℕ) → length t ≡ 10 → digits (date_digits t) ≡ true → byte_at t 4 ≡ 45 → byte_at t 7 ≡ 45 → date_number t ≡ n → date_meant t ≡ Some n
 unfolding is_date
 date_of_lem t n long all first second value = rw (long, all, first, second, value)
 
@@ -149,7 +149,7 @@ module _ (n : ℕ) where
   unfolding date_text digits_of
   second_dash = refl
 
-pub date_written : (n : ℕ) → n < 10 ^ 8 → date_meant (date_text n) ≡ Is n
+pub date_written : (n : ℕ) → n < 10 ^ 8 → date_meant (date_text n) ≡ Some n
 date_written n h =
     let y = digits_of 4 (n / 10000) in
     let m = digits_of 2 (n / 100) in

@@ -1,10 +1,8 @@
 -- What the text of a field means: a number, an amount, a date, a text of the sheet. Each form is a test of its own, of any text. Assumes nothing.
-use Rattle.std.specs.Prelude.{ℕ, suc, ◌+◌, ◌*◌, ◌^◌, Bool, cond, ◌&&◌, ◌||◌, List, [], ◌∷◌, ◌++◌, length, take, drop, replicate, leb, ltb, eqb}
+use Rattle.std.specs.Prelude.{ℕ, suc, ◌+◌, ◌*◌, ◌^◌, Bool, cond, ◌&&◌, ◌||◌, List, ◌++◌, length, take, drop, replicate, leb, ltb, eqb, Option, Some, None}
 use Rattle.wire.specs.Field.{text, part}
 use Rattle.letters.specs.Places.{byte_at, run}
 use Rattle.letters.specs.References.{digit_in, numeral}
-use Rattle.meanings.specs.declared.Meant.{Meant}
-use Rattle.meanings.specs.declared.Meant.TheVariants.{Is, Nothing}
 
 abbrev pub digit : ℕ → Bool
 digit b = digit_in 10 b
@@ -78,14 +76,14 @@ receiver t = filled 11 (cond (eqb (length t) 8) (t ++ text "XXX") t)
 
 -- ---- what a text means as a number
 
-abbrev pub meant_if : Bool → ℕ → Meant
-meant_if test n = cond test (Is n) Nothing
+abbrev pub meant_if : Bool → ℕ → Option ℕ
+meant_if test n = cond test (Some n) None
 
-abbrev pub number_meant : List ℕ → Meant
+abbrev pub number_meant : List ℕ → Option ℕ
 number_meant t = meant_if (is_number t) (decimal t)
 
-abbrev pub amount_meant : List ℕ → Meant
+abbrev pub amount_meant : List ℕ → Option ℕ
 amount_meant t = meant_if (is_amount t) (cents t)
 
-abbrev pub date_meant : List ℕ → Meant
+abbrev pub date_meant : List ℕ → Option ℕ
 date_meant t = meant_if (is_date t) (date_number t)

@@ -1,4 +1,5 @@
-// What the text of a field means. Every function takes any text, so that nobody above has to ask for its form first.
+// What the text of a field means: a number, or none where the text is of another form. Every function takes any text, so that nobody
+// above has to ask for its form first.
 #![tactic(auto)]
 
 ghost use Rattle.std.specs.Prelude.{◌≡◌, true, ◌++◌, ◌+◌, ◌*◌, ◌^◌, ◌<◌, ◌≤◌, ltb, length, get_or, take, replicate};
@@ -6,26 +7,13 @@ ghost use Rattle.std.proofs.lemmas.List.Edits.{sets};
 ghost use Rattle.letters.specs.Places.{run};
 ghost use Rattle.meanings.specs.Meanings.{digit, digits, decimal, number_meant, amount_meant, is_date, date_number, date_meant, meant_if, filled, receiver};
 
-// What a text means as a number, or that it is of another form.
-#[derive(Clone, Copy)]
-pub enum Meant {
-    Is(u64),
-    Nothing,
-}
-
 // How many digits the text begins with.
 fn run(t: &[u8]) -> usize
     ensures { result ≡ run digit t.now }
 {
-    let mut i = 0;
-    while i < t.len() {
-        let b = t[i];
-        if (b < b'0') | (b'9' < b) {
-            return i;
-        }
-        i += 1;
-    }
-    i
+    t.iter()
+        .position(|b| !b.is_ascii_digit())
+        .unwrap_or(t.len())
 }
 
 // Whether it is all digits.
@@ -42,22 +30,20 @@ fn decimal(t: &[u8]) -> u64
     ensures { result ≡ decimal t.now }
 {
     let mut v: u64 = 0;
-    let mut i = 0;
-    while i < t.len() {
-        v = v * 10 + (t[i] - b'0') as u64;
-        i += 1;
+    for b in t {
+        v = v * 10 + (*b - b'0') as u64;
     }
     v
 }
 
 // A number is 1 to 15 digits.
-pub fn number(t: &[u8]) -> Meant
+pub fn number(t: &[u8]) -> Option<u64>
     ensures { result ≡ number_meant t.now }
 {
     if digits(t) & (1 <= t.len()) & (t.len() <= 15) {
-        Meant::Is(decimal(t))
+        Some(decimal(t))
     } else {
-        Meant::Nothing
+        None
     }
 }
 
@@ -75,18 +61,14 @@ fn hundredths(t: &[u8]) -> u64
 }
 
 // Euros and cents in cents, where 64 bits hold them.
-fn in_cents(whole: u64, rest: u64) -> Meant
+fn in_cents(whole: u64, rest: u64) -> Option<u64>
     ensures { result ≡ meant_if (ltb (whole * 100 + rest) (2 ^ 64)) (whole * 100 + rest) }
 {
-    if whole <= (18446744073709551615 - rest) / 100 {
-        Meant::Is(whole * 100 + rest)
-    } else {
-        Meant::Nothing
-    }
+    whole.checked_mul(100)?.checked_add(rest)
 }
 
 // An amount is 1 to 18 digits with a point or none, at most two of them behind it. Without a point nothing stands behind it.
-pub fn amount(t: &[u8]) -> Meant
+pub fn amount(t: &[u8]) -> Option<u64>
     ensures { result ≡ amount_meant t.now }
 {
     let n = run(t);
@@ -97,7 +79,7 @@ pub fn amount(t: &[u8]) -> Meant
     if pointed & digits(parts) & (parts.len() <= 2) & (1 <= count) & (count <= 18) {
         in_cents(decimal(wholes), hundredths(parts))
     } else {
-        Meant::Nothing
+        None
     }
 }
 
@@ -129,13 +111,13 @@ fn date_number(t: &[u8]) -> u64
 }
 
 // A date is any eight digits with two dashes: whether there is such a day is not asked here.
-pub fn date(t: &[u8]) -> Meant
+pub fn date(t: &[u8]) -> Option<u64>
     ensures { result ≡ date_meant t.now }
 {
     if is_date(t) {
-        Meant::Is(date_number(t))
+        Some(date_number(t))
     } else {
-        Meant::Nothing
+        None
     }
 }
 
@@ -152,10 +134,8 @@ pub fn put_filled(d: &mut [u8], at: usize, n: usize, t: &[u8])
 {
     let room = d.len() - wire::least(at, d.len());
     let m = wire::least(n, room);
-    let mut i = 0;
-    while i < m {
+    for i in 0..m {
         d[at + i] = filled_at(t, i);
-        i += 1;
     }
 }
 

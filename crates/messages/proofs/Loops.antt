@@ -1,31 +1,30 @@
 -- The loop over a bulk's messages: what is left, judged from the state so far, comes to what all come to. Assumes nothing.
-use mathlib.Core.Path.{◌≡◌, refl, sym, ap, ◌∙◌}
+use mathlib.Core.Path.{◌≡◌, sym, ap, ◌∙◌}
 use mathlib.Core.Bool.{Bool, true, false, cond}
 use mathlib.Core.List.{List, ◌∷◌}
 use Prim.Native.Nat.{ℕ, suc, ◌+◌, ◌-◌, ◌*◌, ◌^◌, ◌≤◌, ◌<◌}
-use native.Mathlib.Nat.{mul-zero, sub-zero, zero-add, add-zero}
+use native.Mathlib.Nat.{add-zero}
 use native.Mathlib.Omega.{arith}
 use lib.ListN.{length}
 use lib.Seq.{sets}
 use Rattle.sheet.specs.Sheet.{message_width, message_at, records_at, amount_of}
 use Rattle.sheet.proofs.Fields.{message_width_lem}
 use Rattle.sheet.proofs.Laws.{records_step, records_end, records_length, message_bound}
-use Rattle.tally.specs.Tally.{Totals, nothing, with_accepted, with_rejected, totals_of}
+use Rattle.tally.specs.Tally.{Totals, with_accepted, with_rejected, totals_of}
 use Rattle.tally.specs.Room.{Within, most_counted}
 use Rattle.register.specs.Room.{Spare}
-use Rattle.register.proofs.Laws.{spare_less}
 use Rattle.index.specs.Searches.{slots_read, slots_read_by}
-use Rattle.index.specs.Ready.{index_by, Ready}
-use Rattle.index.proofs.Ways.{index_then, index_own, reads_fit}
+use Rattle.index.specs.Ready.{index_by}
+use Rattle.index.proofs.Ways.{index_then, reads_fit}
 use Rattle.report.specs.Line.{message_line_width}
 use Rattle.report.proofs.Laws.{line_within}
-use Rattle.tally.proofs.Laws.{within_none, within_accepted, within_rejected, within_room}
+use Rattle.tally.proofs.Laws.{within_accepted, within_rejected}
 use Rattle.messages.specs.Messages.{State, after_message, line_of, counted, judge_messages}
 use Rattle.messages.specs.Searches.{message_search, message_searches}
 use Rattle.messages.specs.declared.Verdict.{Verdict}
 use Rattle.messages.specs.declared.Counts.{Counts}
-use Rattle.messages.specs.Ready.{state_of, SectionReady, CountReady, MessageTold, MessagesTold}
-use Rattle.messages.proofs.Sums.{plus, plus_nothing, nothing_plus}
+use Rattle.messages.specs.Ready.{state_of, SectionReady, MessageTold, MessagesTold}
+use Rattle.messages.proofs.Sums.{plus, plus_nothing}
 use Rattle.messages.proofs.Walks.{after_first, lines_first, totals_first, message_spare, slots_first, searches_length}
 use Rattle.messages.proofs.Widths.{line_wide}
 use Rattle.wire.proofs.Stores.{sets_then}
@@ -51,44 +50,12 @@ module _ (terms : Terms) (table header : List ℕ) (fallen indexed : Bool) (kind
     pub counted : slots + slots_read_by indexed (message_searches terms table header fallen (records_at sheet (message_width kind) (n - j) place) (state_of register positions))
         ≡ slots_read_by indexed (message_searches terms table header fallen (records_at sheet (message_width kind) n at) before)
 
-  pub messages_start : (t : Totals) → t ≡ nothing → Ready indexed before.register index₀ n → MessagesLeft before.register index₀ before.positions out₀ t 0 at 0
-  messages_start t none ready =
-      record {
-        low = omega arith;
-        here = omega arith;
-        within = rw none within_none;
-        register_wide = refl;
-        index_wide = refl;
-        positions_wide = refl;
-        out_wide = refl;
-        after = rw (sub-zero n);
-        lines = rw (mul-zero message_line_width, sub-zero n);
-        totals = rw (sub-zero n, none) (nothing_plus _);
-        spare = rw (sub-zero n) ready.spare;
-        kept = ready.kept;
-        counted = rw (sub-zero n) (zero-add _);
-      }
-
   module _ (register index positions out : List ℕ) (t : Totals) (slots place j : ℕ) (left : MessagesLeft register index positions out t slots place j) where
     pub message_within : SectionReady sheet kind (record { at = at; number = n }) → j < n → place + message_width kind ≤ length sheet
     message_within ready h = rw left.here (message_bound kind sheet at n j ready.within h)
 
     pub line_space : message_line_width * n ≤ length out₀ → j < n → message_line_width * j + message_line_width ≤ length out
     line_space space h = let wide = left.out_wide in let fits = line_within j n h in omega arith
-
-    pub count_ready : SectionReady sheet kind (record { at = at; number = n }) → j < n → CountReady t
-    count_ready ready h =
-        let few = ready.few in
-        let both = within_room j t (omega arith) left.within in
-        record { to_accept = both.0; to_reject = both.1 }
-
-    -- the next message may take a place, and the index is that of the register so far
-    pub message_place : j < n → Ready indexed register index 1
-    message_place h =
-        record {
-          spare = spare_less register (n - j) 1 (omega arith) left.spare;
-          kept = index_own index₀ index register indexed left.kept;
-        }
 
     -- what is counted is a part of the whole, which fits
     pub slots_room : n ≤ most_counted → j < n → (read : ℕ) → read ≡ slots_read indexed (message_search header (message_at sheet kind place) (state_of register positions)) → slots + read < 2 ^ 64

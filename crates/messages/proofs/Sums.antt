@@ -3,7 +3,7 @@ use mathlib.Core.Path.{◌≡◌, refl}
 use mathlib.Core.Bool.{Bool, true, false, cond}
 use mathlib.Core.List.{List}
 use Prim.Native.Nat.{ℕ, ◌+◌}
-use native.Mathlib.Nat.{add-zero, zero-add}
+use native.Mathlib.Nat.{add-zero}
 use native.Mathlib.Omega.{arith}
 use Rattle.tally.specs.Tally.{Totals, nothing, with_accepted, with_rejected}
 use Rattle.messages.specs.Messages.{State, is_accepted, faults_of, counted}
@@ -24,9 +24,6 @@ totals_same s t a b c d = λ i. record { accepted_number = a i; accepted_cents =
 
 pub plus_nothing : (t : Totals) → plus t nothing ≡ t
 plus_nothing t = totals_same (plus t nothing) t (add-zero _) (add-zero _) (add-zero _) (add-zero _)
-
-pub nothing_plus : (t : Totals) → plus nothing t ≡ t
-nothing_plus t = totals_same (plus nothing t) t (zero-add _) (zero-add _) (zero-add _) (zero-add _)
 
 either_plus : (b : Bool) (amount : ℕ) (s t : Totals)
     → plus (cond b (with_accepted s amount) (with_rejected s amount)) t ≡ plus s (cond b (with_accepted t amount) (with_rejected t amount))

@@ -4,14 +4,10 @@ use mathlib.Core.Bool.{Bool, true, false, cond, not, ◌&&◌}
 use mathlib.Core.List.{List}
 use mathlib.Core.Option.{Option}
 use Prim.Native.Nat.{ℕ, ◌+◌, ◌≤◌}
-use native.Mathlib.Omega.{arith}
 use lib.Dec.{eqb}
 use lib.ListN.{length}
 use lib.Seq.{sets}
-use Rattle.routing.specs.Lookup.{option_of, route}
-use Rattle.routing.specs.Promise.{RowTold}
-use Rattle.routing.specs.declared.Found.{Found}
-use Rattle.sheet.specs.Sheet.{identifier_width, message_width, sender_of, identifier_of, receiver_of, amount_of}
+use Rattle.sheet.specs.Sheet.{identifier_width, message_width, sender_of, identifier_of, amount_of}
 use Rattle.sheet.specs.Reading.{MessageRead, header_in, message_in}
 use Rattle.sheet.specs.declared.Message.{Message}
 use Rattle.sheet.proofs.Fields.{sender_width_lem, identifier_width_lem}
@@ -19,20 +15,19 @@ use Rattle.masks.specs.Mask.{mask}
 use Rattle.slots.specs.Slots.{End}
 use Rattle.register.specs.Register.{key_width, message_tag, key as key_of}
 use Rattle.register.specs.Room.{Parts}
-use Rattle.register.proofs.Laws.{spare_less, key_length}
+use Rattle.register.proofs.Laws.{key_length}
 use Rattle.index.specs.Index.{end_in}
 use Rattle.index.specs.Searches.{slots_read}
-use Rattle.index.specs.Ready.{index_by, nowhere, Ready, SoughtTold, EnterReady, Entered}
+use Rattle.index.specs.Ready.{index_by, nowhere, SoughtTold, Entered}
 use Rattle.index.specs.declared.Sought.{Sought}
 use Rattle.index.proofs.Ways.{read_of}
 use Rattle.rules.specs.declared.Terms.{Terms}
 use Rattle.faults.specs.Faults.{sender_row, receiver_row, message_facts_given, message_faults}
-use Rattle.faults.specs.Asked.{MessageAsked}
 use Rattle.report.specs.Line.{message_line, message_line_width}
 use Rattle.positions.specs.Positions.{pays}
 use Rattle.messages.specs.Messages.{State, is_accepted, message_outcome, faults_of, after_message, line_of}
 use Rattle.messages.specs.Searches.{message_search}
-use Rattle.messages.specs.Ready.{PayReady, RulingReady, MessageReady, MessageTold}
+use Rattle.messages.specs.Ready.{RulingReady, MessageReady, MessageTold}
 use Rattle.messages.specs.declared.Ruling.{Ruling}
 use Rattle.messages.specs.declared.Verdict.{Verdict}
 
@@ -43,18 +38,6 @@ pub identifier_wide_lem : (sheet : List ℕ) (message : Message) (out : List ℕ
 identifier_wide_lem sheet message out to identifier there e = ap length e ∙ identifier_width_lem message.kind sheet message.at there.within
 
 module _ (terms : Terms) (sheet table positions : List ℕ) (ruling : Ruling) (ready : RulingReady terms sheet table positions ruling) where
-  pub message_asked : (message : Message) (out : List ℕ) (to : ℕ) (found : Found) (receiver : List ℕ) → MessageReady sheet message out to
-      → receiver ≡ receiver_of (message_in sheet message) → RowTold table (option_of found) (route terms.date table receiver)
-      → MessageAsked terms sheet table ruling.header message found
-  message_asked message out to found receiver there read told =
-      record {
-        header_within = ready.header_within;
-        header_read = ready.header_read;
-        within = there.within;
-        read = there.read;
-        found = told.is ∙ ap (route terms.date table) read;
-      }
-
   pub parts_wide : (message : Message) (out : List ℕ) (to : ℕ) (sender identifier : List ℕ) → MessageReady sheet message out to
       → sender ≡ sender_of (header_in sheet ruling.header) → identifier ≡ identifier_of (message_in sheet message) → Parts sender identifier
   parts_wide message out to sender identifier there es ei =
@@ -63,26 +46,8 @@ module _ (terms : Terms) (sheet table positions : List ℕ) (ruling : Ruling) (r
         identifier_wide = identifier_wide_lem sheet message out to identifier there ei;
       }
 
-  pub pay_ready : (to expected : Option ℕ) → RowTold table to expected → PayReady table positions (option_of ruling.row) to
-  pay_ready to expected told = record { places = ready.places; from_within = ready.row_found.within; to_within = told.within }
-
-  -- what a loop hands on
-  pub ruling_kept : (positions' : List ℕ) → length positions' ≡ length positions → RulingReady terms sheet table positions' ruling
-  ruling_kept positions' kept =
-      record { header_within = ready.header_within; header_read = ready.header_read; row_found = ready.row_found; places = kept ∙ ready.places }
-
 pub key_wide : (sender identifier key : List ℕ) → Parts sender identifier → key ≡ key_of sender identifier message_tag → length key ≡ key_width
 key_wide sender identifier key parts made = ap length made ∙ key_length sender identifier message_tag parts
-
--- a place is left for the key, which was sought just before
-module _ (indexed : Bool) (register index : List ℕ) where
-  pub seek_ready : Ready indexed register index 1 → Ready indexed register index 0
-  seek_ready ready = record { spare = spare_less register 1 0 (omega arith) ready.spare; kept = ready.kept }
-
-  pub enter_ready : (sender identifier key : List ℕ) → Ready indexed register index 1 → Parts sender identifier → key ≡ key_of sender identifier message_tag
-      → (sought : Sought) → SoughtTold indexed register key sought → EnterReady indexed register index key sought
-  enter_ready sender identifier key ready parts made sought told =
-      record { ready = ready; wide = key_wide sender identifier key parts made; told = told }
 
 -- ---- what the calls come to
 
@@ -141,6 +106,8 @@ module _ (terms : Terms) (table header : List ℕ) (fallen indexed : Bool) (mess
         positions = rw (← no);
         line = line_is_lem;
       }
+
+-- ---- a message that was read
 
 -- ---- a message that was read
 

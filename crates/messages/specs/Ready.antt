@@ -18,11 +18,19 @@ use Rattle.faults.specs.Faults.{sender_row}
 use Rattle.tally.specs.Tally.{Totals, totals_of}
 use Rattle.tally.specs.Room.{Room, most_counted}
 use Rattle.report.specs.Line.{message_line_width}
-use Rattle.messages.specs.Messages.{State, is_accepted, faults_of, after_message, line_of, judge_messages}
+use Rattle.messages.specs.Messages.{State, message_accepted, message_rejected, message_fell, is_accepted, faults_of, after_message, line_of, judge_messages}
 use Rattle.messages.specs.Searches.{message_search, message_searches}
+use Rattle.messages.specs.declared.Outcome.{Outcome}
+use Rattle.messages.specs.declared.Outcome.TheVariants.{Accepted, Rejected, Fell}
 use Rattle.messages.specs.declared.Ruling.{Ruling}
 use Rattle.messages.specs.declared.Verdict.{Verdict}
 use Rattle.messages.specs.declared.Counts.{Counts}
+
+-- the number of an outcome
+abbrev pub outcome_number : Outcome → ℕ
+outcome_number Accepted = message_accepted
+outcome_number Rejected = message_rejected
+outcome_number Fell = message_fell
 
 abbrev pub state_of : List ℕ → List ℕ → State
 state_of register positions = record { register = register; positions = positions }

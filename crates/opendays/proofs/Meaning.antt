@@ -13,7 +13,8 @@ use Rattle.calendar.specs.Days.{last_date}
 use Rattle.calendar.proofs.Days.{to_last}
 use Rattle.opendays.specs.OpenDay.{open_day}
 use Rattle.opendays.specs.Questions.{open_days, next_open_day, first_answer, next_open_day_answer}
-use Rattle.opendays.specs.declared.Answer.TheVariants.{NoDate, NoneLater, Told}
+use Rattle.std.specs.Prelude.{Ok, Err}
+use Rattle.opendays.specs.declared.Unanswered.TheVariants.{NoDate, NoneLater}
 use Rattle.opendays.specs.Promise.{FirstAfter, NoneAfter}
 use Rattle.opendays.proofs.Count.{count_of, count_over, count_none}
 use Rattle.opendays.proofs.Stretch.{days_counted}
@@ -44,20 +45,20 @@ none_means d found x later = by (open_day x) refl
         (let within : x ≤ last_date = to_last x (open_is_date x e) in omega arith)
 
 -- so by the answers themselves
-pub told_means : (d e : ℕ) → next_open_day_answer d ≡ Told e → FirstAfter d e
+pub told_means : (d e : ℕ) → next_open_day_answer d ≡ Ok e → FirstAfter d e
 unfolding next_open_day_answer
 told_means d e answer = by (is_date d) (next_open_day d) refl answer
   where
-    by : (t : Bool) (found : Option ℕ) → next_open_day d ≡ found → cond t (first_answer found) NoDate ≡ Told e → FirstAfter d e
+    by : (t : Bool) (found : Option ℕ) → next_open_day d ≡ found → cond t (first_answer found) (Err NoDate) ≡ Ok e → FirstAfter d e
     by true (some x) is told = let same : x ≡ e = cc in next_means d e (rw (← same) is)
     by true none is told = absurd (let z : ◌≡◌ {A = ℕ} 0 1 = cc in omega arith)
     by false found is told = absurd (let z : ◌≡◌ {A = ℕ} 0 1 = cc in omega arith)
 
-pub none_later_means : (d : ℕ) → next_open_day_answer d ≡ NoneLater → NoneAfter d
+pub none_later_means : (d : ℕ) → next_open_day_answer d ≡ Err NoneLater → NoneAfter d
 unfolding next_open_day_answer
 none_later_means d answer = by (is_date d) (next_open_day d) refl answer
   where
-    by : (t : Bool) (found : Option ℕ) → next_open_day d ≡ found → cond t (first_answer found) NoDate ≡ NoneLater → NoneAfter d
+    by : (t : Bool) (found : Option ℕ) → next_open_day d ≡ found → cond t (first_answer found) (Err NoDate) ≡ Err NoneLater → NoneAfter d
     by true (some x) is told = absurd (let z : ◌≡◌ {A = ℕ} 0 1 = cc in omega arith)
     by true none is told = none_means d is
     by false found is told = absurd (let z : ◌≡◌ {A = ℕ} 0 1 = cc in omega arith)

@@ -1,13 +1,13 @@
 -- What is asked of the calendar of open days, and the answers. Definitions only, total on every number.
-use Rattle.std.specs.Prelude.{ℕ, zero, suc, ◌-◌, cond, ◌&&◌, List, [], ◌∷◌, length}
+use Rattle.std.specs.Prelude.{ℕ, zero, suc, ◌-◌, cond, ◌&&◌, List, [], ◌∷◌, length, Result, Ok, Err}
 use Rattle.std.proofs.Math.Option.{Option, none, some}
 use Rattle.wire.specs.Field.{bit}
 use Rattle.wire.specs.Places.{first_from}
 use Rattle.calendar.specs.Date.{is_date}
 use Rattle.calendar.specs.Days.{last_date}
 use Rattle.opendays.specs.OpenDay.{open_day}
-use Rattle.opendays.specs.declared.Answer.{Answer}
-use Rattle.opendays.specs.declared.Answer.TheVariants.{NoDate, NoneLater, Told}
+use Rattle.opendays.specs.declared.Unanswered.{Unanswered}
+use Rattle.opendays.specs.declared.Unanswered.TheVariants.{NoDate, NoneLater}
 
 -- ---- the days
 
@@ -30,28 +30,27 @@ next_open_day d = first_from open_day (last_date - d) (suc d)
 -- ---- the answers
 
 -- 1 for open, 0 for closed
-unfoldable pub open_day_answer : ℕ → Answer
-open_day_answer date = cond (is_date date) (Told (bit (open_day date))) NoDate
+unfoldable pub open_day_answer : ℕ → Result ℕ Unanswered
+open_day_answer date = cond (is_date date) (Ok (bit (open_day date))) (Err NoDate)
 
-abbrev pub first_answer : Option ℕ → Answer
-first_answer none = NoneLater
-first_answer (some d) = Told d
+abbrev pub first_answer : Option ℕ → Result ℕ Unanswered
+first_answer none = Err NoneLater
+first_answer (some d) = Ok d
 
-unfoldable pub next_open_day_answer : ℕ → Answer
-next_open_day_answer date = cond (is_date date) (first_answer (next_open_day date)) NoDate
+unfoldable pub next_open_day_answer : ℕ → Result ℕ Unanswered
+next_open_day_answer date = cond (is_date date) (first_answer (next_open_day date)) (Err NoDate)
 
 -- either of the two dates may be none
-unfoldable pub open_days_answer : ℕ → ℕ → Answer
-open_days_answer from to = cond (is_date from && is_date to) (Told (open_days from to)) NoDate
+unfoldable pub open_days_answer : ℕ → ℕ → Result ℕ Unanswered
+open_days_answer from to = cond (is_date from && is_date to) (Ok (open_days from to)) (Err NoDate)
 
--- ---- the values of the enum
+-- ---- the answers in numbers
 
-abbrev pub number_of : Answer → ℕ
-number_of NoDate = 31
-number_of NoneLater = 32
-number_of (Told n) = 0
+abbrev pub number_of : Result ℕ Unanswered → ℕ
+number_of (Err NoDate) = 31
+number_of (Err NoneLater) = 32
+number_of (Ok n) = 0
 
-abbrev pub value_of : Answer → ℕ
-value_of NoDate = 0
-value_of NoneLater = 0
-value_of (Told n) = n
+abbrev pub value_of : Result ℕ Unanswered → ℕ
+value_of (Err e) = 0
+value_of (Ok n) = n

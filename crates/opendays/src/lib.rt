@@ -2,7 +2,7 @@
 // number that is asked. It knows nothing of files, and can be had without the judge.
 #![tactic(auto)]
 
-ghost use Rattle.std.specs.Prelude.{◌≡◌, true, suc, ◌-◌, ◌≤◌, ◌<◌};
+ghost use Rattle.std.specs.Prelude.{◌≡◌, true, false, suc, ◌-◌, ◌≤◌, ◌<◌, MatchResult};
 ghost use Rattle.calendar.specs.Date.{year, is_date};
 ghost use Rattle.calendar.specs.Days.{YearOf, all_days};
 ghost use Rattle.opendays.specs.OpenDay.{weekend, holidays, holiday, open_day};
@@ -12,12 +12,11 @@ ghost use Rattle.opendays.specs.Counting.{Forward, workdays_before, closed_at, c
 // `last_date` of the definitions.
 const LAST_DATE: u32 = 22991231;
 
-// What a question is answered with.
-#[derive(Clone, Copy)]
-pub enum Answer {
+// Why a question has no answer.
+#[derive(Debug, Clone, Copy, PartialEq, Eq)]
+pub enum Unanswered {
     NoDate,
     NoneLater,
-    Told(u32),
 }
 
 // ---- a day
@@ -46,99 +45,90 @@ fn holidays(y: u32) -> [u32; 6]
     ]
 }
 
+#[tactic(auto, using(crate::proofs::Laws::year_of))]
 fn holiday(d: u32) -> bool
     requires { is_date d ≡ true }
     ensures { result ≡ holiday d }
 {
-    let days = holidays(d / 10000);
-    (d == days[0])
-        | (d == days[1])
-        | (d == days[2])
-        | (d == days[3])
-        | (d == days[4])
-        | (d == days[5])
+    holidays(d / 10000).contains(&d)
 }
 
 // Whether the number is an open day.
+#[tactic(auto, unfolding(crate::specs::OpenDay::open_day))]
 pub fn is_open(d: u32) -> bool
     ensures { result ≡ open_day d }
 {
-    if calendar::is_date(d) {
-        !weekend(d) & !holiday(d)
-    } else {
-        false
-    }
+    calendar::is_date(d) && !weekend(d) && !holiday(d)
 }
 
 // ---- the questions
 
-// 1 for an open day, 0 for a closed one.
-pub fn open_day(date: u32) -> Answer
-    ensures { result ≡ open_day_answer date }
+fn dated(date: u32) -> Result<(), Unanswered>
+    ensures { MatchResult result (λ _. is_date date ≡ true) (λ e. (e ≡ Unanswered.NoDate) × (is_date date ≡ false)) }
 {
     if calendar::is_date(date) {
-        if is_open(date) {
-            Answer::Told(1)
-        } else {
-            Answer::Told(0)
-        }
+        Ok(())
     } else {
-        Answer::NoDate
+        Err(Unanswered::NoDate)
     }
 }
 
+// 1 for an open day, 0 for a closed one.
+#[tactic(auto, unfolding(crate::specs::Questions::open_day_answer))]
+pub fn open_day(date: u32) -> Result<u32, Unanswered>
+    ensures { result ≡ open_day_answer date }
+{
+    dated(date)?;
+    Ok(u32::from(is_open(date)))
+}
+
 // The first open day after the date.
-pub fn next_open_day(date: u32) -> Answer
+#[tactic(auto, unfolding(crate::specs::Questions::next_open_day_answer))]
+pub fn next_open_day(date: u32) -> Result<u32, Unanswered>
     ensures { result ≡ next_open_day_answer date }
 {
-    if !calendar::is_date(date) {
-        return Answer::NoDate;
-    }
+    dated(date)?;
+    // From date to date: a `for` over the numbers would try the thousands between two years.
     let mut day = date;
     while day < LAST_DATE {
         day = calendar::day_after(day);
         if is_open(day) {
-            return Answer::Told(day);
+            return Ok(day);
         }
     }
-    Answer::NoneLater
+    Err(Unanswered::NoneLater)
 }
 
 // How many open days there are from the first date up to the second, which is not counted.
-pub fn open_days(from: u32, to: u32) -> Answer
+#[tactic(auto, using(crate::proofs::Laws::days_none), unfolding(crate::specs::Questions::open_days_answer))]
+pub fn open_days(from: u32, to: u32) -> Result<u32, Unanswered>
     ensures { result ≡ open_days_answer from to }
 {
-    if calendar::is_date(from) & calendar::is_date(to) {
-        if from < to {
-            Answer::Told(counted(from, to))
-        } else {
-            Answer::Told(0)
-        }
+    dated(from)?;
+    dated(to)?;
+    if from < to {
+        Ok(counted(from, to))
     } else {
-        Answer::NoDate
+        Ok(0)
     }
 }
 
-// The answer's number: 0, or that of a refusal.
-pub fn number_of(answer: Answer) -> u32
+// The answer's number: 0, or that of a refusal. A function here and below: no `From` may stand between types that are not this crate's.
+pub fn number_of(answer: Result<u32, Unanswered>) -> u32
     ensures { result ≡ number_of answer }
 {
     match answer {
-        Answer::NoDate => 31,
-        Answer::NoneLater => 32,
-        Answer::Told(value) => 0,
+        Err(Unanswered::NoDate) => 31,
+        Err(Unanswered::NoneLater) => 32,
+        Ok(_) => 0,
     }
 }
 
 // Its value: 0 with a refusal.
-pub fn value_of(answer: Answer) -> u32
+pub fn value_of(answer: Result<u32, Unanswered>) -> u32
     ensures { result ≡ value_of answer }
 {
-    match answer {
-        Answer::NoDate => 0,
-        Answer::NoneLater => 0,
-        Answer::Told(value) => value,
-    }
+    answer.unwrap_or(0)
 }
 
 // ---- counting: by whole weeks, less the holidays of each year that fall into the week
@@ -148,12 +138,7 @@ fn workdays_before(n: u32) -> u32
     requires { n < all_days }
     ensures { result ≡ workdays_before n }
 {
-    let rest = n % 7;
-    if rest < 2 {
-        n / 7 * 5
-    } else {
-        n / 7 * 5 + (rest - 2)
-    }
+    n / 7 * 5 + (n % 7).saturating_sub(2)
 }
 
 // 1 for a holiday that takes a day from the stretch: it lies there, and on no weekend.
@@ -161,18 +146,16 @@ fn closed_at(from: u32, to: u32, h: u32) -> u32
     requires { is_date h ≡ true }
     ensures { (result ≡ closed_at from to h) × (result ≤ 1) }
 {
-    if (from <= h) & (h < to) & !weekend(h) {
-        1
-    } else {
-        0
-    }
+    u32::from((from <= h) & (h < to) & !weekend(h))
 }
 
 // The holidays of a year that do.
+#[tactic(auto, using(crate::proofs::Stretch::holiday_date))]
 fn closed_in(from: u32, to: u32, y: u32) -> u32
     requires { YearOf y }
     ensures { (result ≡ closed_in from to y) × (result ≤ 6) }
 {
+    // A `for` over them takes four times the instructions: here the month of each is known.
     let days = holidays(y);
     closed_at(from, to, days[0])
         + closed_at(from, to, days[1])
@@ -187,12 +170,9 @@ fn closed_between(from: u32, to: u32) -> u32
     requires { Forward from to }
     ensures { result ≡ closed_over from to (year from) (suc (year to) - year from) }
 {
-    let last = to / 10000;
-    let mut y = from / 10000;
     let mut closed = 0;
-    while y <= last {
+    for y in from / 10000..to / 10000 + 1 {
         closed += closed_in(from, to, y);
-        y += 1;
     }
     closed
 }

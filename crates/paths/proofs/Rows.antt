@@ -1,8 +1,8 @@
 -- The laws of the table: what a child of a name plays, what no row has as its parent, and what an element lacks. Assumes nothing.
-use mathlib.Core.Path.{◌≡◌, refl, sym, ap, ◌∙◌}
-use mathlib.Core.Bool.{Bool, true, false, not, ◌&&◌, false≢true, and-eq-true_iff, and_assoc, and-true, and_self}
+use mathlib.Core.Path.{◌≡◌, refl}
+use mathlib.Core.Bool.{Bool, true, false, cond, ◌&&◌, false≢true, and-eq-true_iff}
 use mathlib.Core.List.{List, [], ◌∷◌}
-use Prim.Native.Nat.{ℕ, zero, suc, ◌+◌, ◌≤◌, ◌<◌}
+use Prim.Native.Nat.{ℕ, ◌≤◌, ◌<◌}
 use native.Mathlib.Omega.{arith}
 use lib.Dec.{eqb, leb, ltb}
 use borrow.Author.Tests.{ne_eqb, ltb-true, leb-true}
@@ -13,8 +13,16 @@ use Rattle.paths.specs.Table.{Row, rows, among, child_role, met, all_met, lacks}
 
 -- ---- a child of a name that is asked for
 
-pub named : {role : ℕ} (parent : ℕ) (name asked : List ℕ) {t : Bool} → t ≡ same name asked → t ≡ true → role ≡ child_role parent asked → role ≡ child_role parent name
-named parent name asked told found plays = rw (same_equal name asked (sym told ∙ found)) plays
+-- of two names the one that stands later may be asked for first
+pub commoner_first : (name a b : List ℕ) (x y z : ℕ) → same a b ≡ false
+    → cond (same name a) x (cond (same name b) y z) ≡ cond (same name b) y (cond (same name a) x z)
+commoner_first name a b x y z differ = by_test (same name a) refl
+  where
+    by_test : (t : Bool) → same name a ≡ t → cond t x (cond (same name b) y z) ≡ cond (same name b) y (cond t x z)
+    by_test true e =
+        let other : same name b ≡ false = rw (same_equal name a e) differ in
+        rw other
+    by_test false e = refl
 
 -- in a parent that a match has found
 pub there : {role : ℕ} {parent key : ℕ} (name : List ℕ) → parent ≡ key → role ≡ child_role key name → role ≡ child_role parent name
@@ -41,18 +49,6 @@ module _ (parent : ℕ) (none : roles.document ≤ parent → roles.original_ref
       let h = leb-true r.parent roles.original_reference high in
       ne_eqb r.parent parent (λ (e : r.parent ≡ parent). absurd (omega (arith, none (omega arith))))
 
-  among_none : (name : List ℕ) (rs : List Row) → parents_within rs ≡ true → among rs parent name ≡ roles.other
-  unfolding among parents_within
-  among_none name [] e = refl
-  among_none name (r ∷ rs) e =
-      let both = (and-eq-true_iff _ _).0 e in
-      let ends = (and-eq-true_iff _ _).0 both.0 in
-      rw (apart r ends.0 ends.1, among_none name rs both.1)
-
-  pub child_none : (name : List ℕ) → child_role parent name ≡ roles.other
-  unfolding child_role
-  child_none name = among_none name rows all_within
-
   met_none : (count : ℕ → ℕ) (rs : List Row) → parents_within rs ≡ true → all_met count rs parent ≡ true
   unfolding all_met parents_within
   met_none count [] e = refl
@@ -65,63 +61,11 @@ module _ (parent : ℕ) (none : roles.document ≤ parent → roles.original_ref
   unfolding lacks
   lacks_none count e = rw (ne_eqb _ _ e, met_none count rows all_within)
 
--- what the last arm of a match tells whose other arms are n numbers from `low` on
-abbrev pub Unlike : ℕ → ℕ → ℕ → Type 0
-Unlike x low zero = Unit {0}
-Unlike x low (suc n) = Unlike x low n × (x ≡ low + n → ⊥)
-
-pub beyond : (x low n : ℕ) → Unlike x low n → low ≤ x → low + n ≤ x
-beyond x low zero u h = omega arith
-beyond x low (suc n) u h = omega (arith, u.1, beyond x low n u.0 h)
-
 -- ---- what an element lacks
 
 pub lacks_other : (role : ℕ) (count : ℕ → ℕ) → role ≡ roles.other → lacks role count ≡ false
 unfolding lacks all_met
 lacks_other role count e = rw e
-
-pub lacks_there : {t : Bool} {role key : ℕ} (count : ℕ → ℕ) → role ≡ key → t ≡ lacks key count → t ≡ lacks role count
-lacks_there count e told = rw e told
-
--- the tests of the rows of one parent, as the table has them one after the other
-pub one : {r a : Bool} → r ≡ a → not r ≡ not (a && true)
-one told = rw (told, and-true)
-
-pub twice : {r a : Bool} → r ≡ a → not r ≡ not (a && (a && true))
-twice told = rw (told, and-true, and_self)
-
-pub two : {r s a b : Bool} → r ≡ a → s ≡ b → not (r && s) ≡ not (a && (b && true))
-two told also = rw (told, also, and-true)
-
-three : (a b c : Bool) → not (a && b && c) ≡ not (a && (b && (c && true)))
-three a b c = rw (and-true, and_assoc)
-
-six : (a b c d e f : Bool) → not (a && b && c && d && e && f) ≡ not (a && (b && (c && (d && (e && (f && true))))))
-six a b c d e f = simp (and-true, and_assoc)
-
-again : (a b : Bool) → (a && b) ≡ (a && (a && b))
-again true b = refl
-again false b = refl
-
--- two rows of the table are of one role
-seven : (a b c d e f : Bool) → not (a && b && c && d && e && f) ≡ not (a && (b && (b && (c && (d && (e && (f && true)))))))
-seven a b c d e f = six a b c d e f ∙ ap (λ (t : Bool). not (a && t)) (again b _)
-
-module _ (count : ℕ → ℕ) where
-  abbrev once : ℕ → Bool
-  once role = eqb (count role) 1
-
-  pub header_lacks : not (once roles.bulk_identifier && once roles.stated_number && once roles.stated_sum && once roles.value_date && once roles.settlement && once roles.sender_agent) ≡ lacks roles.payments_header count
-  unfolding lacks all_met
-  header_lacks = seven (once roles.bulk_identifier) (once roles.stated_number) (once roles.stated_sum) (once roles.value_date) (once roles.settlement) (once roles.sender_agent)
-
-  pub payment_lacks : not (once roles.payment_identification && once roles.amount && once roles.receiver_agent) ≡ lacks roles.one_payment count
-  unfolding lacks all_met
-  payment_lacks = three (once roles.payment_identification) (once roles.amount) (once roles.receiver_agent)
-
-  pub return_lacks : not (once roles.identifier && once roles.original_group && once roles.original_amount && once roles.amount && once roles.reason_information && once roles.original_reference) ≡ lacks roles.one_return count
-  unfolding lacks all_met
-  return_lacks = six (once roles.identifier) (once roles.original_group) (once roles.original_amount) (once roles.amount) (once roles.reason_information) (once roles.original_reference)
 
 -- a field lacks nothing
 pub field_complete : (count : ℕ → ℕ) (role : ℕ) → roles.bulk_identifier ≤ role → lacks role count ≡ false

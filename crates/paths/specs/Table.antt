@@ -81,6 +81,18 @@ among (r ∷ rs) parent name = cond (about r parent name) r.role (among rs paren
 unfoldable pub child_role : ℕ → List ℕ → ℕ
 child_role parent name = among rows parent name
 
+-- what a header's children of that name play, whatever the sum is called there
+abbrev pub header_role : List ℕ → List ℕ → ℕ
+header_role sum name =
+    cond (same name (text "MsgId")) roles.bulk_identifier
+    (cond (same name (text "NbOfTxS")) roles.stated_number
+    (cond (same name (text "NbOfTxs")) roles.stated_number
+    (cond (same name sum) roles.stated_sum
+    (cond (same name (text "IntrBkSttlmDt")) roles.value_date
+    (cond (same name (text "SttlmInf")) roles.settlement
+    (cond (same name (text "InstgAgt")) roles.sender_agent
+    (cond (same name (text "InstdAgt")) roles.recipient roles.other)))))))
+
 unfoldable pub root_role : List ℕ → ℕ
 root_role name = cond (same name (text "Document")) roles.document roles.stranger
 

@@ -8,6 +8,7 @@ ghost use Rattle.std.specs.Prelude.{◌≡◌, get_or, eqb};
 ghost use Rattle.paths.specs.Roles.{payments_header, one_payment, one_return, is_amount, is_message, counts_as};
 ghost use Rattle.paths.specs.Table.{child_role, root_role, lacks};
 
+// Roles are numbers: `child_role` and `lacking` answer for any number, and an enum would ask more of their callers.
 pub const OTHER: usize = 0;
 
 pub const STRANGER: usize = 1;
@@ -89,6 +90,7 @@ pub fn root_role(name: &[u8]) -> usize
 }
 
 // The role of a child of a name, in an element of a role.
+#[tactic(auto, unfolding(crate::specs::Table::child_role, crate::specs::Table::among))]
 pub fn child_role(parent: usize, name: &[u8]) -> usize
     ensures { result ≡ child_role parent name.now }
 {
@@ -137,14 +139,12 @@ pub fn counts_as(role: usize) -> usize
 fn once(counts: &[u8], role: usize) -> bool
     ensures { result ≡ eqb (get_or counts.now role 0) 1 }
 {
-    if role < counts.len() {
-        counts[role] == 1
-    } else {
-        false
-    }
+    role < counts.len() && counts[role] == 1
 }
 
-// Whether a bulk's header lacks something, by how often each role was counted among its children.
+// Whether a bulk's header lacks something, by how often each role was counted among its children. No list of roles and `all`: it is no
+// plainer than the tests themselves.
+#[tactic(auto, unfolding(crate::specs::Table::lacks, crate::specs::Table::all_met))]
 fn header_lacks(counts: &[u8]) -> bool
     ensures { result ≡ lacks payments_header (λ k. get_or counts.now k 0) }
 {
@@ -156,12 +156,14 @@ fn header_lacks(counts: &[u8]) -> bool
         & once(counts, SENDER_AGENT))
 }
 
+#[tactic(auto, unfolding(crate::specs::Table::lacks, crate::specs::Table::all_met))]
 fn payment_lacks(counts: &[u8]) -> bool
     ensures { result ≡ lacks one_payment (λ k. get_or counts.now k 0) }
 {
     !(once(counts, PAYMENT_IDENTIFICATION) & once(counts, AMOUNT) & once(counts, RECEIVER_AGENT))
 }
 
+#[tactic(auto, unfolding(crate::specs::Table::lacks, crate::specs::Table::all_met))]
 fn return_lacks(counts: &[u8]) -> bool
     ensures { result ≡ lacks one_return (λ k. get_or counts.now k 0) }
 {
@@ -174,6 +176,7 @@ fn return_lacks(counts: &[u8]) -> bool
 }
 
 // The same for an element of any role. What no row has as its parent lacks nothing, but a stranger lacks the document.
+#[tactic(auto, unfolding(crate::specs::Table::lacks, crate::specs::Table::all_met))]
 pub fn lacking(role: usize, counts: &[u8]) -> bool
     ensures { result ≡ lacks role (λ k. get_or counts.now k 0) }
 {

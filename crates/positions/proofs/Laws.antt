@@ -113,12 +113,15 @@ pub gain_stored : (p : List ℕ) (i c held w : ℕ) → held ≡ position_at p i
 unfolding gains
 gain_stored p i c held w eh ew = rw (ew, eh, bytes_mod position_width (position_at p i + c))
 
-pub loss_stored : (p : List ℕ) (i c held w : ℕ) → held ≡ position_at p i → (w + c) % 2 ^ 64 ≡ held → w < 2 ^ 64 → c ≤ 2 ^ 64
-    → sets p (position_place i) (bytes_of position_width w) ≡ loses p i c
-unfolding loses
-loss_stored p i c held w eh back below small =
-    let wrapped : w ≡ (held + (2 ^ 64 - c)) % 2 ^ 64 = omega arith in
-    rw (wrapped, eh, bytes_mod position_width (position_at p i + (2 ^ 64 - c)))
+-- a loss is the gain of the negative
+pub loss_gained : (p : List ℕ) (i c n : ℕ) → (n + c) % 2 ^ 64 ≡ 0 → n < 2 ^ 64 → c < 2 ^ 64 → gains p i n ≡ loses p i c
+unfolding gains loses
+loss_gained p i c n back below small =
+    let wrapped : (position_at p i + n) % 2 ^ 64 ≡ (position_at p i + (2 ^ 64 - c)) % 2 ^ 64 = omega arith in
+    ap (sets p (position_place i)) (
+    sym (bytes_mod position_width (position_at p i + n))
+    ∙ ap (bytes_of position_width) wrapped
+    ∙ bytes_mod position_width (position_at p i + (2 ^ 64 - c)))
 
 -- ---- as many as the rows
 

@@ -3,7 +3,7 @@
 
 ghost use Rattle.std.specs.Prelude.{◌≡◌};
 ghost use Rattle.std.proofs.Math.Option.{some};
-ghost use Rattle.positions.specs.Positions.{HasRow, rows, fits, position_at, negative, magnitude, has_room, room_for_all, gains, loses, pays};
+ghost use Rattle.positions.specs.Positions.{HasRow, rows, fits, position_at, negative, magnitude, has_room, room_for_all, gains, pays};
 
 pub const POSITION_WIDTH: usize = 8;
 
@@ -40,7 +40,7 @@ pub fn position_at(positions: &[u8], i: usize) -> u64
 pub fn is_negative(bits: u64) -> bool
     ensures { result ≡ negative bits }
 {
-    !(bits < HALF)
+    HALF <= bits
 }
 
 // How far from 0 the bits lie.
@@ -48,56 +48,42 @@ pub fn magnitude(bits: u64) -> u64
     ensures { result ≡ magnitude bits }
 {
     if is_negative(bits) {
-        std::num::wrapping_sub_u64(0, bits)
+        bits.wrapping_neg()
     } else {
         bits
     }
 }
 
+#[tactic(auto, using(crate::proofs::Laws::room_none, crate::proofs::Laws::room_test))]
 fn has_room(positions: &[u8], cents: u64, i: usize) -> bool
     requires { HasRow positions.now i }
     ensures { result ≡ has_room positions.now cents i }
 {
     let held = magnitude(wire::u64_at(positions, POSITION_WIDTH * i));
-    if MOST_POSITION < cents {
-        return false;
-    }
-    held <= MOST_POSITION - cents
+    cents <= MOST_POSITION && held <= MOST_POSITION - cents
 }
 
 // Whether each row's position could take so many cents more, either way, and stay within 10^18; if not, that is refusal 10.
 pub fn room_for_all(positions: &[u8], cents: u64) -> bool
     ensures { result ≡ room_for_all positions.now cents }
 {
-    let n = rows(positions);
-    let mut i = 0;
-    while i < n {
+    for i in 0..rows(positions) {
         if !has_room(positions, cents, i) {
             return false;
         }
-        i += 1;
     }
     true
 }
 
-// Row i gains so many cents.
+// Row i gains so many cents, or loses as many as the negative of them in two's complement.
+#[tactic(auto, using(crate::proofs::Laws::gain_stored))]
 fn gain(positions: &mut [u8], i: usize, cents: u64)
     requires { HasRow positions.old i }
     ensures { positions.new ≡ gains positions.old i cents }
 {
     let held = wire::u64_at(positions, POSITION_WIDTH * i);
-    let more = std::num::wrapping_add_u64(held, cents);
+    let more = held.wrapping_add(cents);
     writing::put_number(positions, POSITION_WIDTH * i, POSITION_WIDTH, more);
-}
-
-// Row i loses so many cents.
-fn lose(positions: &mut [u8], i: usize, cents: u64)
-    requires { HasRow positions.old i }
-    ensures { positions.new ≡ loses positions.old i cents }
-{
-    let held = wire::u64_at(positions, POSITION_WIDTH * i);
-    let less = std::num::wrapping_sub_u64(held, cents);
-    writing::put_number(positions, POSITION_WIDTH * i, POSITION_WIDTH, less);
 }
 
 // Row `from` pays row `to`, which may be the same, so many cents.
@@ -105,6 +91,6 @@ pub fn pay(positions: &mut [u8], from: usize, to: usize, cents: u64)
     requires { (HasRow positions.old from) × (HasRow positions.old to) }
     ensures { positions.new ≡ pays positions.old (some from) (some to) cents }
 {
-    lose(positions, from, cents);
+    gain(positions, from, cents.wrapping_neg());
     gain(positions, to, cents);
 }

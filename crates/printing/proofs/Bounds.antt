@@ -11,7 +11,7 @@ use borrow.Author.Tests.{eqb-true}
 use Rattle.wire.specs.Field.{Bytes}
 use Rattle.wire.proofs.Texts.{take_bytes}
 use Rattle.wire.proofs.Stores.{part_stored}
-use Rattle.sheet.specs.Sheet.{bulk_count, message_count, whole}
+use Rattle.sheet.specs.Sheet.{bulk_count, message_count}
 use Rattle.report.specs.Line.{report_length}
 use Rattle.refusing.specs.Refusals.{Call, refusal}
 use Rattle.judging.specs.Outcome.{Outcome, outcome, left}
@@ -19,7 +19,8 @@ use Rattle.refusing.proofs.Clear.{clear_of}
 use Rattle.refusing.proofs.Numbers.{refusal_small}
 use Rattle.judging.proofs.Answers.{number_is_lem, outcome_judged}
 use Rattle.judging.proofs.Widths.{report_length_lem}
-use Rattle.judging.specs.declared.Answer.{Answer}
+use Rattle.std.specs.Prelude.{Result}
+use Rattle.refusing.specs.declared.Refusal.{Refusal}
 use Rattle.figures.specs.Figures.{refusal_text}
 use Rattle.figures.proofs.Lengths.{refusal_short}
 use Rattle.sections.specs.Sections.{judged_text}
@@ -68,7 +69,7 @@ module _ (call : Call) (sheet : Bytes call.sheet) (register : Bytes (outcome cal
       by_test false e = let short = refusal_short (outcome call).number (outcome_number call) in omega arith
 
 -- as the judge leaves it: it kept the number of positions
-pub answer_short : (call : Call) (answered : Answer) (register positions report before : List ℕ) → left answered register positions report ≡ outcome call
+pub answer_short : (call : Call) (answered : Result ℕ Refusal) (register positions report before : List ℕ) → left answered register positions report ≡ outcome call
     → Bytes call.sheet → Bytes register → Bytes positions → Bytes report → length positions ≡ length before → length before ≤ 10 ^ 20
     → length (outcome_text (outcome call)) ≤ 2 * length call.sheet + 6 * length before + 13
 answer_short call answered register positions report before is sheet hr hp ho same few =

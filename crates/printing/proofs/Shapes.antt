@@ -13,11 +13,10 @@ use Rattle.wire.proofs.Stores.{part_stored}
 use Rattle.routing.specs.Table.{rows}
 use Rattle.positions.specs.Positions.{position_width}
 use Rattle.refusing.specs.Refusals.{refusal_number}
-use Rattle.judging.specs.Outcome.{Outcome, left, outcome, answer_number}
+use Rattle.judging.specs.Outcome.{Outcome, left, outcome}
 use Rattle.rules.specs.Terms.{dated}
 use Rattle.refusing.specs.Checking.{call_of}
-use Rattle.judging.specs.declared.Answer.{Answer}
-use Rattle.judging.specs.declared.Answer.TheVariants.{Refused, Judged}
+use Rattle.std.specs.Prelude.{Result, Ok, Err}
 use Rattle.refusing.specs.declared.Refusal.{Refusal}
 use Rattle.refusing.proofs.Numbers.{some_number}
 use Rattle.figures.specs.Figures.{refusal_text}
@@ -97,23 +96,23 @@ answer_fits sheet table given positions n fit is long =
 
 -- ---- the text of an outcome
 
-refused : (r : Refusal) (register positions report : List ℕ) → refusal_text (refusal_number r) ≡ outcome_text (left (Refused r) register positions report)
+refused : (r : Refusal) (register positions report : List ℕ) → refusal_text (refusal_number r) ≡ outcome_text (left (Err r) register positions report)
 unfolding outcome_text
 refused r register positions report = sym (rw (some_number r))
 
-module _ (answered : Answer) (register positions report : List ℕ) (told : Outcome) (is : left answered register positions report ≡ told) where
-  pub refused_text : (r : Refusal) (n : ℕ) → answered ≡ Refused r → n ≡ answer_number answered → refusal_text n ≡ outcome_text told
+module _ (answered : Result ℕ Refusal) (register positions report : List ℕ) (told : Outcome) (is : left answered register positions report ≡ told) where
+  pub refused_text : (r : Refusal) (n : ℕ) → answered ≡ Err r → n ≡ refusal_number r → refusal_text n ≡ outcome_text told
   refused_text r n e en =
-      ap refusal_text (en ∙ ap answer_number e)
+      ap refusal_text en
       ∙ refused r register positions report
-      ∙ ap (λ (a : Answer). outcome_text (left a register positions report)) (sym e)
+      ∙ ap (λ (a : Result ℕ Refusal). outcome_text (left a register positions report)) (sym e)
       ∙ ap outcome_text is
 
-  pub judged_text_lem : (n : ℕ) (text : List ℕ) → answered ≡ Judged n → text ≡ part report 0 n → judged_text register positions text ≡ outcome_text told
+  pub judged_text_lem : (n : ℕ) (text : List ℕ) → answered ≡ Ok n → text ≡ part report 0 n → judged_text register positions text ≡ outcome_text told
   unfolding outcome_text
   judged_text_lem n text e cut =
       ap (λ (t : List ℕ). judged_text register positions t) cut
-      ∙ ap (λ (a : Answer). outcome_text (left a register positions report)) (sym e)
+      ∙ ap (λ (a : Result ℕ Refusal). outcome_text (left a register positions report)) (sym e)
       ∙ ap outcome_text is
 
 -- ---- the response

@@ -31,7 +31,7 @@ pub fn respond(out: &mut [u8], input: &[u8]) -> usize
 }
 
 // Answers an input of any length, of which the first n bytes were read: all of them, or as many as the buffer takes. The answer is
-// whole.
+// whole. The buffer and n stay two parameters, as `AnsweredAll` takes them: it is the program's own, and of a fixed size.
 pub fn respond_all(out: &mut [u8; MOST_OUTPUT], buffer: &[u8; MOST_READ], n: usize) -> usize
     ensures { AnsweredAll buffer.now n out.old out.new result }
 {

@@ -8,7 +8,6 @@ ghost use Rattle.printing.specs.Response.{most_response, zeros, outcome_text, ca
 ghost use Rattle.printing.specs.Writing.{PrintedWithin, PartsFit};
 
 use frame::MOST_PART;
-use judging::Answer;
 use rules::Terms;
 
 // Has a file judged, and prints the answer.
@@ -23,10 +22,9 @@ fn put_answer(
 ) -> usize
     ensures { PrintedWithin (2 * length sheet.now + 6 * length positions.old + 13) out.old out.new 0 result (outcome_text (outcome (call_of (dated date) sheet.now table.now register.old positions.old report.old))) }
 {
-    let answered = judging::judge(Terms { date }, sheet, table, register, positions, report);
-    match answered {
-        Answer::Refused(_) => figures::put_refusal(out, 0, judging::number_of(answered)),
-        Answer::Judged(length) => sections::put_judged(
+    match judging::judge(Terms { date }, sheet, table, register, positions, report) {
+        Err(refusal) => figures::put_refusal(out, 0, refusing::number_of(refusal)),
+        Ok(length) => sections::put_judged(
             out,
             0,
             register,

@@ -3,8 +3,8 @@ use mathlib.Core.Path.{◌≡◌, refl}
 use mathlib.Core.List.{List, [], ◌∷◌, ◌++◌, map}
 use Prim.Native.String.{String}
 use Rattle.wire.specs.Field.{text}
-use Rattle.letters.specs.declared.Reach.{Reach}
-use Rattle.letters.specs.declared.Reach.TheVariants.{To, Broken}
+use Rattle.letters.specs.Places.{Reach}
+use Rattle.std.specs.Prelude.{Ok, Err}
 use Rattle.prolog.specs.Prolog.{mark, prolog}
 use Rattle.prolog.proofs.Computing.{prolog_computes}
 
@@ -22,29 +22,29 @@ marked s r = record { says = prolog (mark ++ text s); right = r }
 cases : List Case
 cases =
     -- none, and the mark, spaces or both alone
-    plain "" (To 0) ∷ plain "<Document/>" (To 0) ∷ plain " \t\r\n<Document/>" (To 4) ∷ plain "x" (To 0) ∷ plain "<?xm" (To 0)
-    ∷ marked "" (To 3) ∷ marked "<Document/>" (To 3) ∷ marked " <Document/>" (To 4)
+    plain "" (Ok 0) ∷ plain "<Document/>" (Ok 0) ∷ plain " \t\r\n<Document/>" (Ok 4) ∷ plain "x" (Ok 0) ∷ plain "<?xm" (Ok 0)
+    ∷ marked "" (Ok 3) ∷ marked "<Document/>" (Ok 3) ∷ marked " <Document/>" (Ok 4)
     -- a declaration, with what may be missing and what may not
-    ∷ plain "<?xml version=\"1.0\" encoding=\"UTF-8\"?>\n<Document/>" (To 39)
-    ∷ marked "<?xml version=\"1.0\" encoding=\"UTF-8\"?>\r\n<Document/>" (To 43)
-    ∷ plain "<?xml version=\"1.0\"?><A/>" (To 21) ∷ plain "<?xml version='1.1' encoding='utf-8' standalone='no' ?>  <A/>" (To 57)
-    ∷ plain "<?xml\tversion = '1.0'\n encoding= \"Utf-8\" ?>" (To 43) ∷ plain "<?xml version=\"1.0\" standalone=\"yes\"?>" (To 38)
-    ∷ plain "<?xml version=\"1.0\" encoding=\"UTF-8\" standalone=\"yes\"?>" (To 55)
-    ∷ plain "<?xml version=\"1.0\" standalone=\"yes\" encoding=\"UTF-8\"?>" (Broken 37)
-    ∷ plain "<?xml encoding=\"UTF-8\"?>" (Broken 6) ∷ plain "<?xml?>" (Broken 5) ∷ plain "<?xml-stylesheet?>" (Broken 5)
-    ∷ plain "<?xml version=\"1.0\"encoding=\"UTF-8\"?>" (Broken 19) ∷ plain "<?xml version=\"1.0\" encodes=\"UTF-8\"?>" (Broken 25)
+    ∷ plain "<?xml version=\"1.0\" encoding=\"UTF-8\"?>\n<Document/>" (Ok 39)
+    ∷ marked "<?xml version=\"1.0\" encoding=\"UTF-8\"?>\r\n<Document/>" (Ok 43)
+    ∷ plain "<?xml version=\"1.0\"?><A/>" (Ok 21) ∷ plain "<?xml version='1.1' encoding='utf-8' standalone='no' ?>  <A/>" (Ok 57)
+    ∷ plain "<?xml\tversion = '1.0'\n encoding= \"Utf-8\" ?>" (Ok 43) ∷ plain "<?xml version=\"1.0\" standalone=\"yes\"?>" (Ok 38)
+    ∷ plain "<?xml version=\"1.0\" encoding=\"UTF-8\" standalone=\"yes\"?>" (Ok 55)
+    ∷ plain "<?xml version=\"1.0\" standalone=\"yes\" encoding=\"UTF-8\"?>" (Err 37)
+    ∷ plain "<?xml encoding=\"UTF-8\"?>" (Err 6) ∷ plain "<?xml?>" (Err 5) ∷ plain "<?xml-stylesheet?>" (Err 5)
+    ∷ plain "<?xml version=\"1.0\"encoding=\"UTF-8\"?>" (Err 19) ∷ plain "<?xml version=\"1.0\" encodes=\"UTF-8\"?>" (Err 25)
     -- a value of another form is broken where it begins
-    ∷ plain "<?xml version=\"1.0\" encoding=\"ISO-8859-1\"?>" (Broken 30) ∷ plain "<?xml version=\"1.0\" encoding=\"UTF-16\"?>" (Broken 30)
-    ∷ plain "<?xml version=\"1.0\" encoding=\"UTF-8 \"?>" (Broken 30) ∷ plain "<?xml version=\"1.0\" encoding=\"UTF-8'?>" (Broken 30)
-    ∷ plain "<?xml version=\"2.0\"?>" (Broken 15) ∷ plain "<?xml version=\"1.\"?>" (Broken 15) ∷ plain "<?xml version=\"\"?>" (Broken 15)
-    ∷ plain "<?xml version=\"1.0a\"?>" (Broken 15) ∷ plain "<?xml version=\"1.0" (Broken 15)
-    ∷ plain "<?xml version=\"1.0\" standalone=\"maybe\"?>" (Broken 32) ∷ plain "<?xml version=\"1.0\" standalone=\"YES\"?>" (Broken 32)
+    ∷ plain "<?xml version=\"1.0\" encoding=\"ISO-8859-1\"?>" (Err 30) ∷ plain "<?xml version=\"1.0\" encoding=\"UTF-16\"?>" (Err 30)
+    ∷ plain "<?xml version=\"1.0\" encoding=\"UTF-8 \"?>" (Err 30) ∷ plain "<?xml version=\"1.0\" encoding=\"UTF-8'?>" (Err 30)
+    ∷ plain "<?xml version=\"2.0\"?>" (Err 15) ∷ plain "<?xml version=\"1.\"?>" (Err 15) ∷ plain "<?xml version=\"\"?>" (Err 15)
+    ∷ plain "<?xml version=\"1.0a\"?>" (Err 15) ∷ plain "<?xml version=\"1.0" (Err 15)
+    ∷ plain "<?xml version=\"1.0\" standalone=\"maybe\"?>" (Err 32) ∷ plain "<?xml version=\"1.0\" standalone=\"YES\"?>" (Err 32)
     -- other bytes where they stand, and what breaks off where it does
-    ∷ plain "<?xml version=1.0?>" (Broken 14) ∷ plain "<?xml version \"1.0\"?>" (Broken 14) ∷ plain "<?xml version" (Broken 13) ∷ plain "<?xml" (Broken 5)
-    ∷ plain "<?xml version=\"1.0\" encoding=\"UTF-8\">" (Broken 36) ∷ plain "<?xml version=\"1.0\" encoding=\"UTF-8\"? >" (Broken 37)
-    ∷ plain "<?xml version=\"1.0\" other=\"1\"?>" (Broken 20) ∷ plain "<?xml version=\"1.0\"? >" (Broken 20)
+    ∷ plain "<?xml version=1.0?>" (Err 14) ∷ plain "<?xml version \"1.0\"?>" (Err 14) ∷ plain "<?xml version" (Err 13) ∷ plain "<?xml" (Err 5)
+    ∷ plain "<?xml version=\"1.0\" encoding=\"UTF-8\">" (Err 36) ∷ plain "<?xml version=\"1.0\" encoding=\"UTF-8\"? >" (Err 37)
+    ∷ plain "<?xml version=\"1.0\" other=\"1\"?>" (Err 20) ∷ plain "<?xml version=\"1.0\"? >" (Err 20)
     -- after a space it is no declaration: the element that has to stand there is then broken
-    ∷ plain " <?xml version=\"1.0\"?>" (To 1) ∷ plain "<?XML version=\"1.0\"?>" (To 0)
+    ∷ plain " <?xml version=\"1.0\"?>" (Ok 1) ∷ plain "<?XML version=\"1.0\"?>" (Ok 0)
     ∷ []
 
 cases_right : map (λ c. c.says) cases ≡ map (λ c. c.right) cases

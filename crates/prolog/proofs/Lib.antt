@@ -1,5 +1,4 @@
 pub mod Values
-pub mod Settings
 pub mod Prologs
 pub mod Computing
 pub mod Cases

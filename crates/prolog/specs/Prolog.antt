@@ -1,10 +1,10 @@
 -- What stands before the first document: a mark, a declaration, spaces. Assumes nothing.
-use Rattle.std.specs.Prelude.{ℕ, ◌+◌, Bool, true, cond, ◌&&◌, ◌||◌, List, [], ◌∷◌, ltb, eqb}
+use Rattle.std.specs.Prelude.{ℕ, ◌+◌, Bool, true, cond, ◌&&◌, ◌||◌, List, [], ◌∷◌, ltb, eqb, Ok, Err}
 use Rattle.wire.specs.Field.{text}
-use Rattle.letters.specs.Places.{byte_at, within, run_end, expected, on_reach}
+use Rattle.letters.specs.Places.{byte_at, within, run_end, expected, on_reach, Reach}
 use Rattle.letters.specs.References.{stands}
-use Rattle.letters.specs.declared.Reach.{Reach}
-use Rattle.letters.specs.declared.Reach.TheVariants.{To, Broken}
+use Rattle.prolog.specs.declared.Key.{Key}
+use Rattle.prolog.specs.declared.Key.TheVariants.{Version, Encoding, Standalone}
 use Rattle.tags.specs.Names.{is_space, space_end}
 use Rattle.tags.specs.Attributes.{is_quote}
 
@@ -40,6 +40,11 @@ abbrev pub standalone_end : List ℕ → ℕ → ℕ
 standalone_end s at = cond (stands s at (text "yes")) (at + 3) (cond (stands s at (text "no")) (at + 2) at)
 
 -- the settings, by number
+abbrev pub number_of : Key → ℕ
+number_of Version = 0
+number_of Encoding = 1
+number_of Standalone = 2
+
 abbrev pub setting_name : ℕ → List ℕ
 setting_name k = cond (eqb k 0) (text "version") (cond (eqb k 1) (text "encoding") (text "standalone"))
 
@@ -50,21 +55,21 @@ value_end k s at = cond (eqb k 0) (version_end s at) (cond (eqb k 1) (encoding_e
 abbrev pub quoted : ℕ → List ℕ → ℕ → Reach
 quoted k s at =
     cond (is_quote (byte_at s at))
-    (cond (ltb (at + 1) (value_end k s (at + 1)) && eqb (byte_at s (value_end k s (at + 1))) (byte_at s at)) (To (value_end k s (at + 1) + 1)) (Broken (at + 1)))
-    (Broken at)
+    (cond (ltb (at + 1) (value_end k s (at + 1)) && eqb (byte_at s (value_end k s (at + 1))) (byte_at s at)) (Ok (value_end k s (at + 1) + 1)) (Err (at + 1)))
+    (Err at)
 
 -- '=' with spaces round it, and the value
 abbrev pub equated : ℕ → List ℕ → ℕ → Reach
-equated k s at = cond (eqb (byte_at s (space_end s at)) 61) (quoted k s (space_end s (space_end s at + 1))) (Broken (space_end s at))
+equated k s at = cond (eqb (byte_at s (space_end s at)) 61) (quoted k s (space_end s (space_end s at + 1))) (Err (space_end s at))
 
 -- spaces, the name, and the rest
 unfoldable pub setting_at : ℕ → List ℕ → ℕ → Reach
 setting_at k s at =
-    cond (is_space (byte_at s at)) (on_reach (expected s (setting_name k) (space_end s at)) (λ n. equated k s n)) (Broken at)
+    cond (is_space (byte_at s at)) (on_reach (expected s (setting_name k) (space_end s at)) (λ n. equated k s n)) (Err at)
 
 -- a setting that may be missing: it is there where its name's first letter is
 abbrev pub maybe_setting : ℕ → ℕ → List ℕ → ℕ → Reach
-maybe_setting k letter s at = cond (eqb (byte_at s (space_end s at)) letter) (setting_at k s at) (To at)
+maybe_setting k letter s at = cond (eqb (byte_at s (space_end s at)) letter) (setting_at k s at) (Ok at)
 
 -- after '<?xml'
 unfoldable pub declaration_at : List ℕ → ℕ → Reach
@@ -77,5 +82,5 @@ declaration_at s at =
 -- where the first document begins
 unfoldable pub prolog : List ℕ → Reach
 prolog s =
-    on_reach (cond (stands s (after_mark s) (text "<?xml")) (declaration_at s (after_mark s + 5)) (To (after_mark s))) (λ n.
-    To (space_end s n))
+    on_reach (cond (stands s (after_mark s) (text "<?xml")) (declaration_at s (after_mark s + 5)) (Ok (after_mark s))) (λ n.
+    Ok (space_end s n))

@@ -4,10 +4,10 @@
 ghost use Rattle.std.specs.Prelude.{◌≡◌};
 ghost use Rattle.wire.specs.Field.{text};
 ghost use Rattle.letters.specs.Places.{run_end, expected};
-ghost use Rattle.prolog.specs.Prolog.{after_mark, same_letter, any_case, digit, version_end, encoding_end, standalone_end, setting_name};
+ghost use Rattle.prolog.specs.Prolog.{after_mark, same_letter, any_case, digit, version_end, encoding_end, standalone_end, number_of, setting_name};
 ghost use Rattle.prolog.specs.Prolog.{value_end, quoted, equated, setting_at, maybe_setting, declaration_at, prolog};
 
-use letters::Reach;
+use letters::{Bytes, Reach};
 
 // ---- the values of settings
 
@@ -17,18 +17,22 @@ fn is_digit(b: u8) -> bool
     (48 <= b) & (b <= 57)
 }
 
+#[derive(Clone, Copy)]
+struct Digit;
+
+impl Bytes for Digit {
+    ghost holds = { λ self. digit };
+
+    fn has(&self, b: u8) -> bool {
+        is_digit(b)
+    }
+}
+
 // The place after the digits that stand here.
 fn digits_end(s: &[u8], at: usize) -> usize
     ensures { result ≡ run_end digit s.now at }
 {
-    let mut i = at;
-    while i < s.len() {
-        if !is_digit(s[i]) {
-            return i;
-        }
-        i += 1;
-    }
-    i
+    letters::run_end(s, at, Digit)
 }
 
 // A digit or more after the point. A value of another form ends where it begins, here and below.
@@ -82,105 +86,101 @@ fn standalone_end(s: &[u8], at: usize) -> usize
     }
 }
 
-// ---- a setting, by its number
+// ---- a setting
 
-// Its name, or where that breaks off.
-fn name(k: usize, s: &[u8], at: usize) -> Reach
-    ensures { result ≡ expected s.now (setting_name k) at }
+// Which setting it is.
+#[derive(Clone, Copy)]
+enum Key {
+    Version,
+    Encoding,
+    Standalone,
+}
+
+// Its name, or where that breaks off. Text and place stay parameters, as the definitions of the reader take them (`setting_at`).
+fn name(k: Key, s: &[u8], at: usize) -> Reach
+    ensures { result ≡ expected s.now (setting_name (number_of k)) at }
 {
-    if k == 0 {
-        return letters::expect(s, b"version", at);
-    }
-    if k == 1 {
-        letters::expect(s, b"encoding", at)
-    } else {
-        letters::expect(s, b"standalone", at)
+    match k {
+        Key::Version => letters::expect(s, b"version", at),
+        Key::Encoding => letters::expect(s, b"encoding", at),
+        Key::Standalone => letters::expect(s, b"standalone", at),
     }
 }
 
-fn value_end(k: usize, s: &[u8], at: usize) -> usize
-    ensures { result ≡ value_end k s.now at }
+fn value_end(k: Key, s: &[u8], at: usize) -> usize
+    ensures { result ≡ value_end (number_of k) s.now at }
 {
-    if k == 0 {
-        return version_end(s, at);
-    }
-    if k == 1 {
-        encoding_end(s, at)
-    } else {
-        standalone_end(s, at)
+    match k {
+        Key::Version => version_end(s, at),
+        Key::Encoding => encoding_end(s, at),
+        Key::Standalone => standalone_end(s, at),
     }
 }
 
 // A value between two quotes of one kind. A place is added to only where a byte over 0 stands, which is in the text.
-fn quoted(k: usize, s: &[u8], at: usize) -> Reach
-    ensures { result ≡ quoted k s.now at }
+fn quoted(k: Key, s: &[u8], at: usize) -> Reach
+    ensures { result ≡ quoted (number_of k) s.now at }
 {
     let quote = letters::byte_at(s, at);
     if !tags::is_quote(quote) {
-        return Reach::Broken(at);
+        return Err(at);
     }
     let from = at + 1;
     let to = value_end(k, s, from);
     if to <= from {
-        return Reach::Broken(from);
+        return Err(from);
     }
     if letters::byte_at(s, to) == quote {
-        Reach::To(to + 1)
+        Ok(to + 1)
     } else {
-        Reach::Broken(from)
+        Err(from)
     }
 }
 
 // '=' with spaces round it, and the value.
-fn equated(k: usize, s: &[u8], at: usize) -> Reach
-    ensures { result ≡ equated k s.now at }
+fn equated(k: Key, s: &[u8], at: usize) -> Reach
+    ensures { result ≡ equated (number_of k) s.now at }
 {
     let equals = tags::space_end(s, at);
     if letters::byte_at(s, equals) != b'=' {
-        return Reach::Broken(equals);
+        return Err(equals);
     }
     quoted(k, s, tags::space_end(s, equals + 1))
 }
 
-fn setting(k: usize, s: &[u8], at: usize) -> Reach
-    ensures { result ≡ setting_at k s.now at }
+#[tactic(auto, unfolding(crate::specs::Prolog::setting_at))]
+fn setting(k: Key, s: &[u8], at: usize) -> Reach
+    ensures { result ≡ setting_at (number_of k) s.now at }
 {
     if !tags::is_space(letters::byte_at(s, at)) {
-        return Reach::Broken(at);
+        return Err(at);
     }
-    match name(k, s, tags::space_end(s, at)) {
-        Reach::To(n) => equated(k, s, n),
-        Reach::Broken(p) => Reach::Broken(p),
-    }
+    let n = name(k, s, tags::space_end(s, at))?;
+    equated(k, s, n)
 }
 
 // A setting that is there where a name with this first letter is.
-fn maybe_setting(k: usize, letter: u8, s: &[u8], at: usize) -> Reach
-    ensures { result ≡ maybe_setting k letter s.now at }
+fn maybe_setting(k: Key, letter: u8, s: &[u8], at: usize) -> Reach
+    ensures { result ≡ maybe_setting (number_of k) letter s.now at }
 {
     if letters::byte_at(s, tags::space_end(s, at)) == letter {
         setting(k, s, at)
     } else {
-        Reach::To(at)
+        Ok(at)
     }
 }
 
 // ---- the whole
 
 // What follows '<?xml'.
+#[tactic(auto, unfolding(crate::specs::Prolog::declaration_at))]
 fn declaration(s: &[u8], at: usize) -> Reach
     ensures { result ≡ declaration_at s.now at }
 {
-    match setting(0, s, at) {
-        Reach::To(a) => match maybe_setting(1, b'e', s, a) {
-            Reach::To(b) => match maybe_setting(2, b's', s, b) {
-                Reach::To(c) => letters::expect(s, b"?>", tags::space_end(s, c)),
-                Reach::Broken(p) => Reach::Broken(p),
-            },
-            Reach::Broken(p) => Reach::Broken(p),
-        },
-        Reach::Broken(p) => Reach::Broken(p),
-    }
+    let a = setting(Key::Version, s, at)?;
+    let b = maybe_setting(Key::Encoding, b'e', s, a)?;
+    let c = maybe_setting(Key::Standalone, b's', s, b)?;
+    letters::expect(s, b"?>", tags::space_end(s, c))
 }
 
 fn after_mark(s: &[u8]) -> usize
@@ -194,15 +194,14 @@ fn after_mark(s: &[u8]) -> usize
 }
 
 // Where the first document begins, or where the form is broken before it.
+#[tactic(auto, unfolding(crate::specs::Prolog::prolog))]
 pub fn first_place(s: &[u8]) -> Reach
     ensures { result ≡ prolog s.now }
 {
     let from = after_mark(s);
     if !letters::stands_at(s, from, b"<?xml") {
-        return Reach::To(tags::space_end(s, from));
+        return Ok(tags::space_end(s, from));
     }
-    match declaration(s, from + 5) {
-        Reach::To(n) => Reach::To(tags::space_end(s, n)),
-        Reach::Broken(p) => Reach::Broken(p),
-    }
+    let n = declaration(s, from + 5)?;
+    Ok(tags::space_end(s, n))
 }

@@ -16,7 +16,7 @@ use contract.Lifetimes.{Lfts}
 use contract.Monad.{Fun}
 use denote.Ref.{Bor, MutBor}
 use mir.Syntax.{w32, w64}
-use mir.Val.{Val, vint, vstruct, of_list}
+use mir.Val.{Val, vint, vunit, vstruct, of_list}
 use types.Match.{live}
 use Rattle.sheet.specs.Sheet.{bulks_of, bulk_count, message_count}
 use Rattle.register.specs.Register.{well_formed}
@@ -30,14 +30,15 @@ use Rattle.refusing.proofs.Clear.{clear_of, indexed_clear}
 use Rattle.refusing.specs.declared.Refusal.{Refusal}
 use Rattle.refusing.specs.declared.Refusal.TheVariants.{Date, Table, Positions, Register, IndexLength, IndexContents, Sheet, Size, Kind, Order, Room, Limit, Space}
 use Rattle.judging.specs.Outcome.{Outcome, turned_away, judgement, judged_of, outcome, answer_number, answer_length, left}
-use Rattle.judging.specs.Indexed.{IndexedOutcome, searches_of, indexed_outcome, indexed_left, IndexBuilt, index_built, building_number, built_left}
-use Rattle.judging.specs.declared.Answer.{Answer}
-use Rattle.judging.specs.declared.Answer.TheVariants.{Refused, Judged}
-use Rattle.judging.specs.declared.Building.{Building}
-use Rattle.judging.specs.declared.Building.TheVariants.{Unbuilt, Built}
+use Rattle.judging.specs.Indexed.{IndexedOutcome, searches_of, indexed_away, indexed_outcome, indexed_left, IndexBuilt, index_built, building_number, built_left}
 use Rattle.judging.proofs.Answers.{outcome_judged, outcome_refused}
-use Rattle.judging.specs.contracts.Answer.{the_row as answer_row}
-use Rattle.judging.specs.contracts.Building.{the_row as building_row}
+use Rattle.std.specs.contracts.result.Result.{the_row as result_row}
+use Rattle.refusing.specs.contracts.Refusal.{the_row as refusal_row}
+use Rattle.judging.specs.contracts.Judged.{the_row as judged_row}
+use Rattle.judging.specs.declared.Judged.{Judged}
+use Rattle.std.specs.Prelude.{Result, Ok, Err}
+use Rattle.std.specs.Borrow.{RattleType}
+use denote.Builtin.{usize, unit}
 use Rattle.judging.proofs.Entries.{slots_few}
 use Rattle.judging.proofs.Widths.{bulk_number, message_number}
 use Rattle.tynderaxo.specs.Doors.{indexed_door_outcome}
@@ -51,20 +52,23 @@ use Rattle.promises.proofs.Told.{tell}
 
 -- ---- answers that are values of their type
 
-judged_held : (n : ℕ) → n < 2 ^ 64 → Held answer_row (Judged n)
-judged_held n small = (live 1 (of_list (vint w64 n ∷ [])) ∷ [], (vint w64 n ∷ [], (refl, ((vint w64 n ∷ [], tt), (refl, ((refl, small), tt))))))
+abbrev answer_row : RattleType
+answer_row = result_row usize refusal_row
+
+judged_held : (n : ℕ) → n < 2 ^ 64 → Held answer_row (Ok n)
+judged_held n small = (live 0 (of_list (vint w64 n ∷ [])) ∷ [], (vint w64 n ∷ [], (refl, ((vint w64 n ∷ [], tt), (refl, ((refl, small), tt))))))
 
 abbrev bare : ℕ → List Val
 bare k = live k (of_list []) ∷ []
 
 -- the refusal that is the k-th of its type
 abbrev HeldAs : ℕ → Type 0
-HeldAs k = (x : List Val) × ((y : List Val) × ((x ≡ live 0 (of_list y) ∷ []) × ((z : List Val × Unit {0}) × ((y ≡ z.0 ++ []) × (((u : List Val) × ((z.0 ≡ live k (of_list u) ∷ []) × (Unit {0} × ((u ≡ []) × Unit {0})))) × Unit {0})))))
+HeldAs k = (x : List Val) × ((y : List Val) × ((x ≡ live 1 (of_list y) ∷ []) × ((z : List Val × Unit {0}) × ((y ≡ z.0 ++ []) × (((u : List Val) × ((z.0 ≡ live k (of_list u) ∷ []) × (Unit {0} × ((u ≡ []) × Unit {0})))) × Unit {0})))))
 
 held_as : {k : ℕ} → HeldAs k
-held_as {k} = (live 0 (of_list (bare k)) ∷ [], (bare k, (refl, ((bare k, tt), (refl, (([], (refl, (tt, (refl, tt)))), tt))))))
+held_as {k} = (live 1 (of_list (bare k)) ∷ [], (bare k, (refl, ((bare k, tt), (refl, (([], (refl, (tt, (refl, tt)))), tt))))))
 
-refused_held : (r : Refusal) → Held answer_row (Refused r) × (refusal_number r < 2 ^ 32)
+refused_held : (r : Refusal) → Held answer_row (Err r) × (refusal_number r < 2 ^ 32)
 refused_held Date = (held_as, lit< tt)
 refused_held Table = (held_as, lit< tt)
 refused_held Positions = (held_as, lit< tt)
@@ -82,23 +86,24 @@ refused_held Space = (held_as, lit< tt)
 -- ---- the answer to a call
 
 record Answered (out : Outcome) : Type 0 where
-  answer : Answer
+  answer : Result ℕ Refusal
   held : Held answer_row answer
   number_small : answer_number answer < 2 ^ 32
   length_small : answer_length answer < 2 ^ 64
   is : left answer out.register out.positions out.report ≡ out
 
+report_small : (call : Call) → refusal call ≡ 0 → report_length (bulk_count call.sheet) (message_count call.sheet) < 2 ^ 64
+report_small call e = let clear = clear_of call e in omega (arith, lines_small (message_count call.sheet))
+
 judged_answered : (call : Call) → refusal call ≡ 0 → Answered (judged_of call (judgement call))
 judged_answered call e =
-    let clear = clear_of call e in
-    let n = report_length (bulk_count call.sheet) (message_count call.sheet) in
-    let small : n < 2 ^ 64 = omega (arith, lines_small (message_count call.sheet)) in
-    record { answer = Judged n; held = judged_held n small; number_small = lit< tt; length_small = small; is = refl }
+    let small = report_small call e in
+    record { answer = Ok (report_length (bulk_count call.sheet) (message_count call.sheet)); held = judged_held _ small; number_small = lit< tt; length_small = small; is = refl }
 
 refused_answered : (call : Call) (n : ℕ) → (r : Refusal) × (refusal_number r ≡ n) → Answered (turned_away call n)
 refused_answered call n why =
     let fine = refused_held why.0 in
-    record { answer = Refused why.0; held = fine.0; number_small = fine.1; length_small = lit< tt; is = ap (turned_away call) why.1 }
+    record { answer = Err why.0; held = fine.0; number_small = fine.1; length_small = lit< tt; is = ap (turned_away call) why.1 }
 
 answered : (call : Call) → Answered (outcome call)
 answered call = by_answer (ℕ_discrete (refusal call) 0)
@@ -108,9 +113,37 @@ answered call = by_answer (ℕ_discrete (refusal call) 0)
     by_answer (no e) = rw (outcome_refused call e) (refused_answered call (refusal call) (refusal_named call e))
 
 -- with an index, the slots that are read are counted besides
+abbrev indexed_row : RattleType
+indexed_row = result_row judged_row refusal_row
+
 record IndexedAnswered (out : IndexedOutcome) : Type 0 where
   told : Answered out.outcome
   slots_small : out.slots < 2 ^ 64
+  answer : Result Judged Refusal
+  held : Held indexed_row answer
+  is : indexed_left answer out.outcome.register out.outcome.positions out.outcome.report out.index ≡ out
+
+counted_held : (n slots : ℕ) → n < 2 ^ 64 → slots < 2 ^ 64 → Held indexed_row (Ok (record { length = n; slots = slots }))
+counted_held n slots small few =
+    let length = vint w64 n ∷ [] in
+    let read = vint w64 slots ∷ [] in
+    let both = vstruct (of_list (length ++ read)) ∷ [] in
+    (live 0 (of_list both) ∷ [], (both, (refl, ((both, tt), (refl, (((length, (read, tt)), (refl, ((refl, small), ((refl, few), tt)))), tt))))))
+
+indexed_refused_held : (r : Refusal) → Held indexed_row (Err r)
+indexed_refused_held Date = held_as
+indexed_refused_held Table = held_as
+indexed_refused_held Positions = held_as
+indexed_refused_held Register = held_as
+indexed_refused_held IndexLength = held_as
+indexed_refused_held IndexContents = held_as
+indexed_refused_held Sheet = held_as
+indexed_refused_held Size = held_as
+indexed_refused_held Kind = held_as
+indexed_refused_held Order = held_as
+indexed_refused_held Room = held_as
+indexed_refused_held Limit = held_as
+indexed_refused_held Space = held_as
 
 slots_small_lem : (call : Call) → refusal call ≡ 0 → slots_read_by true (searches_of call) < 2 ^ 64
 slots_small_lem call e =
@@ -126,14 +159,34 @@ indexed_answered call index = by_answer (ℕ_discrete (indexed_refusal call inde
     by_answer : Dec (indexed_refusal call index ≡ 0) → IndexedAnswered (indexed_outcome call index)
     by_answer (yes e) =
         let plain = (indexed_clear call index e).0 in
-        rw (indexed_judged_lem call index e) (record { told = judged_answered call plain; slots_small = slots_small_lem call plain })
+        let n = report_length (bulk_count call.sheet) (message_count call.sheet) in
+        let slots = slots_read_by true (searches_of call) in
+        let few = slots_small_lem call plain in
+        rw (indexed_judged_lem call index e)
+        (record {
+          told = judged_answered call plain;
+          slots_small = few;
+          answer = Ok (record { length = n; slots = slots });
+          held = counted_held n slots (report_small call plain) few;
+          is = refl;
+        })
     by_answer (no e) =
+        let named = indexed_named call index e in
         rw (indexed_refused call index e)
-        (record { told = refused_answered call (indexed_refusal call index) (indexed_named call index e); slots_small = lit< tt })
+        (record {
+          told = refused_answered call (indexed_refusal call index) named;
+          slots_small = lit< tt;
+          answer = Err named.0;
+          held = indexed_refused_held named.0;
+          is = ap (indexed_away call index) named.1;
+        })
 
 -- of a building
+abbrev building_row : RattleType
+building_row = result_row unit refusal_row
+
 record BuildingAnswered (out : IndexBuilt) : Type 0 where
-  answer : Building
+  answer : Result Unit Refusal
   held : Held building_row answer
   number_small : building_number answer < 2 ^ 32
   is : built_left answer out.index ≡ out
@@ -144,9 +197,9 @@ built_answered register index = by_tests_lem (well_formed register) (length_wron
   where
     by_tests_lem : (t u : Bool)
         → BuildingAnswered (cond t (cond u (record { number = refusal_number IndexLength; index = index }) (record { number = 0; index = index_of register })) (record { number = refusal_number Register; index = index }))
-    by_tests_lem true true = record { answer = Unbuilt IndexLength; held = held_as; number_small = lit< tt; is = refl }
-    by_tests_lem true false = record { answer = Built; held = (bare 1, ([], (refl, (tt, (refl, tt))))); number_small = lit< tt; is = refl }
-    by_tests_lem false u = record { answer = Unbuilt Register; held = held_as; number_small = lit< tt; is = refl }
+    by_tests_lem true true = record { answer = Err IndexLength; held = held_as; number_small = lit< tt; is = refl }
+    by_tests_lem true false = record { answer = Ok tt; held = (live 0 (of_list (vunit ∷ [])) ∷ [], (vunit ∷ [], (refl, ((vunit ∷ [], tt), (refl, (refl, tt)))))); number_small = lit< tt; is = refl }
+    by_tests_lem false u = record { answer = Err Register; held = held_as; number_small = lit< tt; is = refl }
 
 -- ---- a call of each function: the bytes lie anywhere
 
@@ -205,25 +258,16 @@ module _ {M : Type 1} {𝓤 : Ura M} (𝓛 : Logic 𝓤) (mem : Memory → SProp
   pub indexed_judge_comes : (call : Call) (index : List ℕ) → Comes 𝓤 (the_indexed_judge 𝓤 𝓛 mem run) (call, index) (indexed_outcome call index)
   indexed_judge_comes call index =
       let out = indexed_outcome call index in
-      let all = indexed_answered call index in
-      let found = all.told in
-      let answer = found.held.0 in
-      let slots = vint w64 out.slots ∷ [] in
-      let is : indexed_left (record { answer = found.answer; slots = out.slots }) out.outcome.register out.outcome.positions out.outcome.report out.index ≡ out =
-      ap (λ (o : Outcome). record { outcome = o; slots = out.slots; index = out.index }) found.is in
+      let found = indexed_answered call index in
       record {
         lifetimes = ([], lifetimes);
         arguments = (call.terms, lending call (lent_mut index, tt));
         ghost = tt;
-        result = record { answer = found.answer; slots = out.slots };
+        result = found.answer;
         last = leaving out.outcome (out.index, tt);
-        allowed =
-            record {
-              held = (vstruct (of_list (answer ++ slots)) ∷ [], ((answer, (slots, tt)), (refl, (found.held.1, ((refl, all.slots_small), tt)))));
-              told = tell 𝓤 is;
-            };
+        allowed = record { held = found.held; told = tell 𝓤 found.is };
         given = refl;
-        left = is;
+        left = found.is;
       }
 
   pub indexed_door_comes : (call : Call) (index : List ℕ) → Comes 𝓤 (the_indexed_door 𝓤 𝓛 mem run) (call, index) (indexed_outcome call index)

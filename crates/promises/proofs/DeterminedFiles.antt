@@ -2,7 +2,7 @@
 -- Here: those over table, sheet, register, positions and report, which know of no rule. There is a statement for each function, and
 -- `.ci/determined` asks that none is missing. Of a slice that is handed back the bytes are read: no contract says where they lie.
 -- Assumes nothing.
-use mathlib.Core.Path.{refl, sym, ◌∙◌}
+use mathlib.Core.Path.{◌≡◌, refl, sym, ◌∙◌}
 use mathlib.Core.Bool.{Bool-set}
 use mathlib.Core.List.{List}
 use Prim.Native.Nat.{ℕ}
@@ -15,7 +15,13 @@ use contract.Monad.{Fun}
 use Rattle.promises.specs.Determined.{Determines, Determined}
 use Rattle.promises.proofs.Told.{results, both, number, truth, bytes}
 use Rattle.promises.proofs.Readings.{found_one, routed_one, shape_one, count_one, header_one, message_one, walk_one, bulk_one, places_one, cents_one, side_one, tally_one}
+use denote.RattleType.{RattleType}
+use mir.Syntax.{Dict}
+use Rattle.std.specs.Prelude.{Option as RustOption}
+use Rattle.std.specs.Fn.{FnReturnsAt}
+use Rattle.routing.proofs.Laws.{routed_one as route_one}
 use Rattle.routing.specs.contracts as routing
+use Rattle.routing.specs.contracts.route_by.F-Fn.{Ghosts}
 use Rattle.directory.specs.contracts as directory
 use Rattle.sheet.specs.contracts as sheet
 use Rattle.register.specs.contracts as register
@@ -61,6 +67,14 @@ module _ {M : Type 1} {𝓤 : Ura M} (𝓛 : Logic 𝓤) (mem : Memory → SProp
 
   pub routing_lookup : Determined 𝓛 mem run routing.lookup.ended routing.lookup.clauses
   routing_lookup κs a g r r' ws ws' h h' = (both 𝓤 (results routing.lookup.ended κs) routed_one h.told h'.told, refl)
+
+  pub routing_HeadOffice_as_slice : Determines 𝓤 routing.HeadOffice.as_slice.ended (routing.HeadOffice.as_slice.clauses 𝓛 mem run) {Seen = λ κs. List ℕ} (λ κs r. r.now)
+  routing_HeadOffice_as_slice κs a g r r' ws ws' h h' = (bytes 𝓤 _ h.told h'.told, refl)
+
+  -- as far as the search that it is given tells one row of a text
+  module _ (F' : RattleType) (calls : Ghosts F') (d0 d1 d2 d3 : Dict) (one : (f : F'.Denot) (x : List ℕ) (r r' : RustOption ℕ) → FnReturnsAt calls f x r → FnReturnsAt calls f x r' → r ≡ r') where
+    pub routing_route_by : Determined 𝓛 mem run (routing.route_by.ended F' calls d0 d1 d2 d3) (routing.route_by.clauses F' calls d0 d1 d2 d3)
+    routing_route_by κs a g r r' ws ws' h h' = (both 𝓤 (results (routing.route_by.ended F' calls d0 d1 d2 d3) κs) (route_one _ (one _) _ r r') h.told h'.told, refl)
 
   pub routing_number_of : Determined 𝓛 mem run routing.number_of.ended routing.number_of.clauses
   routing_number_of κs a g r r' ws ws' h h' = (number 𝓤 _ h.told h'.told, refl)

@@ -3,7 +3,7 @@
 -- that is handed back the bytes are read: no contract says where they lie. Assumes nothing.
 use mathlib.Core.Path.{◌≡◌, refl, sym, ap, ◌∙◌}
 use mathlib.Core.List.{List, is_set}
-use Prim.Native.Nat.{ℕ}
+use Prim.Native.Nat.{ℕ, ◌<◌, ◌^◌}
 use native.Mathlib.Nat.{ℕ_set}
 use seplogic.Ra.Ura.{Ura}
 use base.Logic.{SProp}
@@ -11,6 +11,12 @@ use prog.Memory.{Memory}
 use prog.Routine.{Routine}
 use types.Logic.{Logic}
 use contract.Monad.{Fun}
+use denote.RattleType.{RattleType}
+use mir.Syntax.{Dict}
+use Rattle.std.specs.declared.clone.Clone.{Ghosts as Copies}
+use Rattle.letters.specs.Places.{Reach, on_turn}
+use Rattle.letters.specs.declared.Turn.{Turn}
+use Rattle.letters.specs.declared.Bytes.{Ghosts as Kinds}
 use Rattle.prose.specs.Prose.{Kept}
 use Rattle.prose.specs.declared.Said.{Said}
 use Rattle.reading.specs.Reading.{Outcome}
@@ -19,6 +25,7 @@ use Rattle.tynderaxo.specs.declared.TynderaxoReadAnswer.{TynderaxoReadAnswer}
 use Rattle.promises.specs.Determined.{Determines, Determined}
 use Rattle.promises.proofs.Told.{results, both, same, first, second, number, truth, bytes}
 use Rattle.letters.specs.contracts as letters
+use Rattle.letters.specs.contracts.walk.F-Fn.{Ghosts as Turns}
 use Rattle.tags.specs.contracts as tags
 use Rattle.prose.specs.contracts as prose
 use Rattle.prolog.specs.contracts as prolog
@@ -69,6 +76,18 @@ module _ {M : Type 1} {𝓤 : Ura M} (𝓛 : Logic 𝓤) (mem : Memory → SProp
 
   pub letters_reference_at : Determined 𝓛 mem run letters.reference_at.ended letters.reference_at.clauses
   letters_reference_at κs a g r r' ws ws' h h' = (same 𝓤 (results letters.reference_at.ended κs) _ h.told h'.told, refl)
+
+  -- by what the kind of bytes holds
+  module _ (B' : RattleType) (kinds : Kinds B'.Denot) (d0 : Dict) (copies : Copies B'.Denot) (d1 : Dict) where
+    pub letters_run_end : Determined 𝓛 mem run (letters.run_end.ended B' kinds d0 copies d1) (letters.run_end.clauses B' kinds d0 copies d1)
+    letters_run_end κs a g r r' ws ws' h h' = (number 𝓤 _ h.told h'.told, refl)
+
+  -- as far as the turns that it is given lead somewhere
+  module _ (F' : RattleType) (turns : Turns F') (d0 d1 d2 d3 : Dict) (reach : F'.Denot → ℕ → Reach)
+      (leads : (f : F'.Denot) (i : ℕ) (t : Turn) → i < 2 ^ 64 → turns.post f (i, tt) t → on_turn t (reach f) ≡ reach f i) where
+    pub letters_walk : Determined 𝓛 mem run (letters.walk.ended F' turns d0 d1 d2 d3) (letters.walk.clauses F' turns d0 d1 d2 d3)
+    letters_walk κs a g r r' ws ws' h h' =
+        (both 𝓤 (results (letters.walk.ended F' turns d0 d1 d2 d3) κs) (λ t t'. t (reach _) (leads _) ∙ sym (t' (reach _) (leads _))) h.told h'.told, refl)
 
   -- ---- tags
 

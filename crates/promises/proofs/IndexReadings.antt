@@ -16,9 +16,9 @@ use Rattle.index.specs.declared.Sought.{Sought}
 use Rattle.refusing.specs.Refusals.{refusal_number}
 use Rattle.refusing.proofs.Numbers.{some_number, number_tells}
 use Rattle.judging.specs.Indexed.{IndexedOutcome, indexed_left, IndexBuilt, building_number, built_left}
-use Rattle.judging.specs.declared.IndexedAnswer.{IndexedAnswer}
-use Rattle.judging.specs.declared.Building.{Building}
-use Rattle.judging.specs.declared.Building.TheVariants.{Unbuilt, Built}
+use Rattle.judging.specs.declared.Judged.{Judged}
+use Rattle.refusing.specs.declared.Refusal.{Refusal}
+use Rattle.std.specs.Prelude.{Result, Ok, Err}
 use Rattle.tynderaxo.specs.Doors.{indexed_door_outcome}
 use Rattle.tynderaxo.specs.declared.TynderaxoIndexedAnswer.{TynderaxoIndexedAnswer}
 use Rattle.promises.specs.Determined.{Held}
@@ -39,21 +39,21 @@ counts_one p q t t' s s' = λ i. record {
   slots = (s ∙ sym s') i;
 }
 
-building_one : (x y : Building) → building_number x ≡ building_number y → x ≡ y
-building_one (Unbuilt r) (Unbuilt s) e = ap Unbuilt (number_tells r s e)
-building_one (Unbuilt r) Built e = absurd (eqb-false (refusal_number r) 0 (some_number r) e)
-building_one Built (Unbuilt s) e = absurd (eqb-false (refusal_number s) 0 (some_number s) (sym e))
-building_one Built Built e = refl
+building_one : (x y : Result Unit Refusal) → building_number x ≡ building_number y → x ≡ y
+building_one (Err r) (Err s) e = ap Err (number_tells r s e)
+building_one (Err r) (Ok u) e = absurd (eqb-false (refusal_number r) 0 (some_number r) e)
+building_one (Ok u) (Err s) e = absurd (eqb-false (refusal_number s) 0 (some_number s) (sym e))
+building_one (Ok u) (Ok v) e = refl
 
 -- ---- what is left: nothing of what is only read, and the bytes of the rest
 
--- of the judgement of a bulk's messages, which has ten arguments
+-- of the judgement of a bulk's messages, which has eight arguments
 abbrev MessagesLeft : Type 0
-MessagesLeft = Unit {0} × (Unit {0} × (Unit {0} × (Unit {0} × (Unit {0} × (List ℕ × (List ℕ × (List ℕ × (List ℕ × (Unit {0} × (Unit {0} × Unit {0}))))))))))
+MessagesLeft = Unit {0} × (Unit {0} × (List ℕ × (List ℕ × (List ℕ × (List ℕ × (Unit {0} × (Unit {0} × Unit {0})))))))
 
-pub messages_left : (ws ws' : MessagesLeft) → ws.1.1.1.1.1.0 ≡ ws'.1.1.1.1.1.0 → ws.1.1.1.1.1.1.0 ≡ ws'.1.1.1.1.1.1.0
-    → ws.1.1.1.1.1.1.1.0 ≡ ws'.1.1.1.1.1.1.1.0 → ws.1.1.1.1.1.1.1.1.0 ≡ ws'.1.1.1.1.1.1.1.1.0 → ws ≡ ws'
-messages_left ws ws' p q e f = λ i. (tt, (tt, (tt, (tt, (tt, (p i, (q i, (e i, (f i, (tt, (tt, tt)))))))))))
+pub messages_left : (ws ws' : MessagesLeft) → ws.1.1.0 ≡ ws'.1.1.0 → ws.1.1.1.0 ≡ ws'.1.1.1.0
+    → ws.1.1.1.1.0 ≡ ws'.1.1.1.1.0 → ws.1.1.1.1.1.0 ≡ ws'.1.1.1.1.1.0 → ws ≡ ws'
+messages_left ws ws' p q e f = λ i. (tt, (tt, (p i, (q i, (e i, (f i, (tt, (tt, tt))))))))
 
 -- of a call with an index
 abbrev Left : Type 0
@@ -72,16 +72,19 @@ index_builts x y p q = λ j i. record {
   index = is_set ℕ_set x.index y.index (λ k. (p k).index) (λ k. (q k).index) j i;
 }
 
+abbrev left_by : IndexedOutcome → Left
+left_by o = (tt, (tt, (tt, (o.outcome.register, (o.outcome.positions, (o.outcome.report, (o.index, tt)))))))
+
 -- the outcomes that two answers and what they leave make up
 module _ (ws ws' : Left) where
   abbrev outcome_of : Left → (List ℕ → List ℕ → List ℕ → List ℕ → IndexedOutcome) → IndexedOutcome
   outcome_of vs make = make vs.1.1.1.0 vs.1.1.1.1.0 vs.1.1.1.1.1.0 vs.1.1.1.1.1.1.0
 
-  pub indexed_one : {x y : IndexedAnswer} → outcome_of ws (indexed_left x) ≡ outcome_of ws' (indexed_left y) → (x ≡ y) × (ws ≡ ws')
-  indexed_one {x} {y} e = (
-    λ i. record { answer = answer_one x.answer y.answer (λ k. (e k).outcome.number) (λ k. (e k).outcome.length) i; slots = (e i).slots },
-    λ i. (tt, (tt, (tt, ((e i).outcome.register, ((e i).outcome.positions, ((e i).outcome.report, ((e i).index, tt))))))),
-  )
+  pub indexed_one : {x y : Result Judged Refusal} → outcome_of ws (indexed_left x) ≡ outcome_of ws' (indexed_left y) → (x ≡ y) × (ws ≡ ws')
+  indexed_one {x = Err r} {y = Err s} e = (ap Err (number_tells r s (λ i. (e i).outcome.number)), λ i. left_by (e i))
+  indexed_one {x = Err r} {y = Ok m} e = absurd (eqb-false (refusal_number r) 0 (some_number r) (λ i. (e i).outcome.number))
+  indexed_one {x = Ok n} {y = Err s} e = absurd (eqb-false (refusal_number s) 0 (some_number s) (sym (λ i. (e i).outcome.number)))
+  indexed_one {x = Ok n} {y = Ok m} e = (ap Ok (λ i. record { length = (e i).outcome.length; slots = (e i).slots }), λ i. left_by (e i))
 
   pub indexed_door_one : {x y : TynderaxoIndexedAnswer} → outcome_of ws (indexed_door_outcome x) ≡ outcome_of ws' (indexed_door_outcome y) → (x ≡ y) × (ws ≡ ws')
   indexed_door_one e = (
@@ -91,7 +94,7 @@ module _ (ws ws' : Left) where
 
 -- of a building, whose index is its second argument
 module _ (ws ws' : Unit {0} × (List ℕ × Unit {0})) where
-  pub built_one : {x y : Building} → built_left x ws.1.0 ≡ built_left y ws'.1.0 → (x ≡ y) × (ws ≡ ws')
+  pub built_one : {x y : Result Unit Refusal} → built_left x ws.1.0 ≡ built_left y ws'.1.0 → (x ≡ y) × (ws ≡ ws')
   built_one {x} {y} e = (building_one x y (λ i. (e i).number), λ i. (tt, ((e i).index, tt)))
 
   pub built_door_one : {x y : ℕ} → ◌≡◌ {A = IndexBuilt} (record { number = x; index = ws.1.0 }) (record { number = y; index = ws'.1.0 }) → (x ≡ y) × (ws ≡ ws')

@@ -9,22 +9,20 @@ use native.Mathlib.Nat.{ℕ_set}
 use native.Mathlib.Omega.{arith}
 use lib.Dec.{eqb}
 use borrow.Author.Tests.{eqb-false}
+use Rattle.std.specs.Prelude.{Option as RustOption, Some, None, Result, Ok, Err}
 use Rattle.promises.specs.Determined.{Held}
 use Rattle.routing.specs.Lookup.{Routed, option_of, values_of}
 use Rattle.routing.specs.Promise.{RowTold, AnswerTold}
-use Rattle.routing.specs.declared.Found.{Found}
-use Rattle.routing.specs.declared.Found.TheVariants.{Row as FoundRow, Nothing}
+use Rattle.routing.specs.declared.Refusal.{Refusal as BadQuestion}
 use Rattle.routing.specs.declared.Refusal.TheVariants.{Date as BadDate, Table as BadTable, Bic as BadBic}
-use Rattle.routing.specs.declared.Answer.{Answer as RoutingAnswer}
-use Rattle.routing.specs.declared.Answer.TheVariants.{Refused as TurnedAway, Missing, Row}
+use Rattle.routing.specs.declared.Row.{Row}
 use Rattle.sheet.specs.Reading.{CountRead, HeaderRead, MessageRead, WalkStarted, BulkTaken, shape_of}
 use Rattle.sheet.specs.declared.Counted.{Counted}
 use Rattle.sheet.specs.declared.Header.{Header}
 use Rattle.sheet.specs.declared.Message.{Message}
 use Rattle.sheet.specs.declared.Walk.{Walk}
 use Rattle.sheet.specs.declared.BulkRead.{BulkRead}
-use Rattle.sheet.specs.declared.Shape.{Shape}
-use Rattle.sheet.specs.declared.Shape.TheVariants.{Broken, Whole}
+use Rattle.sheet.specs.declared.Contents.{Contents}
 use Rattle.tally.specs.Tally.{Totals, cents_of, totals_of}
 use Rattle.tally.specs.Room.{SideTold}
 use Rattle.tally.specs.contracts.Cents.{the_row as cents_row}
@@ -37,76 +35,78 @@ use Rattle.report.specs.Told.{PlacesTold}
 use Rattle.report.specs.declared.Places.{Places}
 use Rattle.refusing.specs.Refusals.{refusal_number}
 use Rattle.refusing.specs.Checking.{Told as CheckTold}
-use Rattle.refusing.specs.declared.Checked.{Checked}
-use Rattle.refusing.specs.declared.Checked.TheVariants.{Stopped, Fine}
 use Rattle.refusing.proofs.Numbers.{some_number, number_tells}
 use Rattle.judging.specs.Outcome.{Outcome, answer_number, answer_length, left}
 use Rattle.refusing.specs.declared.Refusal.{Refusal}
-use Rattle.judging.specs.declared.Answer.{Answer}
-use Rattle.judging.specs.declared.Answer.TheVariants.{Refused, Judged}
 use Rattle.tynderaxo.specs.Doors.{door_outcome, routed_by}
 use Rattle.tynderaxo.specs.declared.TynderaxoAnswer.{TynderaxoAnswer}
 use Rattle.tynderaxo.specs.declared.TynderaxoRoute.{TynderaxoRoute}
 
 -- ---- an enum is read back from its values
 
-found_of : Option ℕ → Found
-found_of none = Nothing
-found_of (some i) = FoundRow i
+found_of : Option ℕ → RustOption ℕ
+found_of none = None
+found_of (some i) = Some i
 
-found_back : (x : Found) → found_of (option_of x) ≡ x
+found_back : (x : RustOption ℕ) → found_of (option_of x) ≡ x
 unfolding found_of
-found_back (FoundRow i) = refl
-found_back Nothing = refl
+found_back (Some i) = refl
+found_back None = refl
 
-pub found_one : {table : List ℕ} {e : Option ℕ} {x y : Found} → RowTold table (option_of x) e → RowTold table (option_of y) e → x ≡ y
+pub found_one : {table : List ℕ} {e : Option ℕ} {x y : RustOption ℕ} → RowTold table (option_of x) e → RowTold table (option_of y) e → x ≡ y
 found_one {x = x} {y = y} p q = sym (found_back x) ∙ ap found_of (p.is ∙ sym q.is) ∙ found_back y
 
-shape_from : Option (ℕ × ℕ) → Shape
-shape_from none = Broken
-shape_from (some n) = Whole n.0 n.1
+shape_from : Option (ℕ × ℕ) → RustOption Contents
+shape_from none = None
+shape_from (some n) = Some (record { bulks = n.0; messages = n.1 })
 
-shape_back : (x : Shape) → shape_from (shape_of x) ≡ x
+shape_back : (x : RustOption Contents) → shape_from (shape_of x) ≡ x
 unfolding shape_from
-shape_back Broken = refl
-shape_back (Whole bulks messages) = refl
+shape_back None = refl
+shape_back (Some contents) = refl
 
-pub shape_one : {e : Option (ℕ × ℕ)} {x y : Shape} → shape_of x ≡ e → shape_of y ≡ e → x ≡ y
+pub shape_one : {e : Option (ℕ × ℕ)} {x y : RustOption Contents} → shape_of x ≡ e → shape_of y ≡ e → x ≡ y
 shape_one {x = x} {y = y} p q = sym (shape_back x) ∙ ap shape_from (p ∙ sym q) ∙ shape_back y
 
+abbrev RoutingAnswer : Type 0
+RoutingAnswer = Result (RustOption Row) BadQuestion
+
 routed_from : ℕ → ℕ → ℕ → ℕ → RoutingAnswer
-routed_from zero zero row reachable = Missing
-routed_from zero (suc found) row reachable = Row row (eqb reachable 1)
-routed_from (suc n) found row reachable = TurnedAway (cond (eqb n 0) BadDate (cond (eqb n 1) BadTable BadBic))
+routed_from zero zero row reachable = Ok None
+routed_from zero (suc found) row reachable = Ok (Some (record { place = row; reachable = eqb reachable 1 }))
+routed_from (suc n) found row reachable = Err (cond (eqb n 0) BadDate (cond (eqb n 1) BadTable BadBic))
 
 routed_of : Routed → RoutingAnswer
 routed_of v = routed_from v.number v.found v.row v.reachable
 
 routed_back : (x : RoutingAnswer) → routed_of (values_of x) ≡ x
 unfolding routed_of routed_from
-routed_back (TurnedAway BadDate) = refl
-routed_back (TurnedAway BadTable) = refl
-routed_back (TurnedAway BadBic) = refl
-routed_back Missing = refl
-routed_back (Row i true) = refl
-routed_back (Row i false) = refl
+routed_back (Err BadDate) = refl
+routed_back (Err BadTable) = refl
+routed_back (Err BadBic) = refl
+routed_back (Ok None) = refl
+routed_back (Ok (Some row)) = by_reach row.reachable
+  where
+    by_reach : (b : Bool) → routed_of (values_of (Ok (Some (record { place = row.place; reachable = b })))) ≡ Ok (Some (record { place = row.place; reachable = b }))
+    by_reach true = refl
+    by_reach false = refl
 
 pub routed_one : {table : List ℕ} {e : Routed} {x y : RoutingAnswer} → AnswerTold table x e → AnswerTold table y e → x ≡ y
 routed_one {x = x} {y = y} p q = sym (routed_back x) ∙ ap routed_of (p.is ∙ sym q.is) ∙ routed_back y
 
 -- what was checked is a refusal, which has a number, or what the sheet holds
-pub checked_one : (first : Refusal) (test : Refusal → Bool) (sheet : List ℕ) (x y : Checked) → CheckTold first test sheet x → CheckTold first test sheet y → x ≡ y
-checked_one first test sheet (Stopped r) (Stopped s) p q = ap Stopped (number_tells r s (sym p ∙ q))
-checked_one first test sheet (Stopped r) (Fine c) p q = absurd (eqb-false (refusal_number r) 0 (some_number r) (sym p ∙ q.0))
-checked_one first test sheet (Fine c) (Stopped s) p q = absurd (eqb-false (refusal_number s) 0 (some_number s) (sym q ∙ p.0))
-checked_one first test sheet (Fine c) (Fine d) p q =
-    ap Fine (λ i. record { bulks = (p.1.bulk_count ∙ sym q.1.bulk_count) i; messages = (p.1.message_count ∙ sym q.1.message_count) i })
+pub checked_one : (first : Refusal) (test : Refusal → Bool) (sheet : List ℕ) (x y : Result Contents Refusal) → CheckTold first test sheet x → CheckTold first test sheet y → x ≡ y
+checked_one first test sheet (Err r) (Err s) p q = ap Err (number_tells r s (sym p ∙ q))
+checked_one first test sheet (Err r) (Ok c) p q = absurd (eqb-false (refusal_number r) 0 (some_number r) (sym p ∙ q.0))
+checked_one first test sheet (Ok c) (Err s) p q = absurd (eqb-false (refusal_number s) 0 (some_number s) (sym q ∙ p.0))
+checked_one first test sheet (Ok c) (Ok d) p q =
+    ap Ok (λ i. record { bulks = (p.1.bulk_count ∙ sym q.1.bulk_count) i; messages = (p.1.message_count ∙ sym q.1.message_count) i })
 
-pub answer_one : (x y : Answer) → answer_number x ≡ answer_number y → answer_length x ≡ answer_length y → x ≡ y
-answer_one (Refused r) (Refused s) e e' = ap Refused (number_tells r s e)
-answer_one (Refused r) (Judged n) e e' = absurd (eqb-false (refusal_number r) 0 (some_number r) e)
-answer_one (Judged n) (Refused s) e e' = absurd (eqb-false (refusal_number s) 0 (some_number s) (sym e))
-answer_one (Judged n) (Judged m) e e' = ap Judged e'
+pub answer_one : (x y : Result ℕ Refusal) → answer_number x ≡ answer_number y → answer_length x ≡ answer_length y → x ≡ y
+answer_one (Err r) (Err s) e e' = ap Err (number_tells r s e)
+answer_one (Err r) (Ok n) e e' = absurd (eqb-false (refusal_number r) 0 (some_number r) e)
+answer_one (Ok n) (Err s) e e' = absurd (eqb-false (refusal_number s) 0 (some_number s) (sym e))
+answer_one (Ok n) (Ok m) e e' = ap Ok e'
 
 -- ---- a struct is its fields
 
@@ -217,7 +217,7 @@ module _ (ws ws' : Left) where
   abbrev outcome_of : Left → (List ℕ → List ℕ → List ℕ → Outcome) → Outcome
   outcome_of vs make = make vs.1.1.1.0 vs.1.1.1.1.0 vs.1.1.1.1.1.0
 
-  pub judged_one : {x y : Answer} → outcome_of ws (left x) ≡ outcome_of ws' (left y) → (x ≡ y) × (ws ≡ ws')
+  pub judged_one : {x y : Result ℕ Refusal} → outcome_of ws (left x) ≡ outcome_of ws' (left y) → (x ≡ y) × (ws ≡ ws')
   judged_one {x} {y} e = (
     answer_one x y (λ i. (e i).number) (λ i. (e i).length),
     left_one {ws = ws} {ws' = ws'} (λ i. (e i).register) (λ i. (e i).positions) (λ i. (e i).report),

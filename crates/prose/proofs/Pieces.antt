@@ -11,8 +11,8 @@ use Rattle.wire.specs.Field.{part}
 use Rattle.letters.specs.Places.{byte_at}
 use Rattle.letters.specs.Characters.{width_at, encoded}
 use Rattle.letters.specs.References.{stands, reference_at}
+use Rattle.std.specs.Prelude.{Option, Some, None}
 use Rattle.letters.specs.declared.Reference.{Reference}
-use Rattle.letters.specs.declared.Reference.TheVariants.{Stands, Nothing}
 use Rattle.letters.proofs.Scans.{byte_there}
 use Rattle.letters.proofs.Characters.{width_small, width_there}
 use Rattle.letters.proofs.References.{stands_there, reference_forward}
@@ -41,9 +41,9 @@ module _ (s : List ℕ) (at : ℕ) where
       let over : 0 < w = omega (arith, eqb-false w 0 t) in
       (over, width_small s at w e, width_there s at w e over))
 
-  other_goes : (r : Reference) → reference_at s at ≡ r → Goes s at (other_of r)
-  other_goes (Stands c next) e = let on = reference_forward s at c next e in (omega arith, omega arith)
-  other_goes Nothing e = omega arith
+  other_goes : (r : Option Reference) → reference_at s at ≡ r → Goes s at (other_of r)
+  other_goes (Some r) e = let on = reference_forward s at r.character r.next e in (omega arith, omega arith)
+  other_goes None e = omega arith
 
   line_goes : at < length s → Goes s at (line_end s at)
   line_goes h = either (eqb (byte_at s (at + 1)) 10) (Other 10 (at + 2)) (Other 10 (at + 1)) (λ t. (omega arith, h)) (λ t. (omega arith, h))

@@ -10,13 +10,12 @@ use lib.ListN.{length, drop}
 use Rattle.wire.proofs.Sides.{le_or_lt}
 use Rattle.letters.specs.Places.{byte_at, run, run_end, on_turn, walk}
 use Rattle.letters.specs.declared.Turn.{Turn}
-use Rattle.letters.specs.declared.Turn.TheVariants.{On, Ends}
-use Rattle.letters.specs.declared.Reach.{Reach}
-use Rattle.letters.specs.declared.Reach.TheVariants.{To}
+use Rattle.letters.specs.declared.Turn.TheVariants.{On, Ends, Breaks}
+use Rattle.std.specs.Prelude.{Ok}
 use Rattle.letters.proofs.Scans.{run_on, run_stops, run_ends}
 use Rattle.letters.proofs.Walks.{Onward, walk_turn}
 use Rattle.prose.specs.Plain.{plain}
-use Rattle.prose.specs.Prose.{text_turn, text_at}
+use Rattle.prose.specs.Prose.{past_plain, text_turn, text_at}
 use Rattle.prose.proofs.Turns.{text_sign, text_plain, text_onward}
 
 -- ---- from the end of a run back to its start
@@ -48,17 +47,16 @@ module _ (turn : ℕ → Turn) (s : List ℕ) (onward : Onward turn (length s)) 
       (λ i there passes rest. walk_turn turn s onward i (On (i + 1)) (over i passes) ∙ rest)
       at refl
 
-  module _ (all : Reach) (i : ℕ) (left : walk turn s i ≡ all) where
-    -- a turn, and what is left after it comes to what the whole does
-    pub walk_left : (r : Turn) → turn i ≡ r → on_turn r (λ next. walk turn s next) ≡ all
-    walk_left r e = sym (walk_turn turn s onward i r e) ∙ left
+  -- with turns that go over plain bytes too
+  pub walk_past : (i : ℕ) (r : Turn) → turn i ≡ r → on_turn (past_plain s r) (λ next. walk turn s next) ≡ walk turn s i
+  walk_past i (On next) e = sym (walk_plain next) ∙ sym (walk_turn turn s onward i (On next) e)
+  walk_past i (Ends m) e = sym (walk_turn turn s onward i (Ends m) e)
+  walk_past i (Breaks p) e = sym (walk_turn turn s onward i (Breaks p) e)
 
-    -- a turn that goes on, and the plain bytes after it
-    pub walk_further : (next to : ℕ) → to ≡ run_end plain s next → turn i ≡ On next → walk turn s to ≡ all
-    walk_further next to e told = rw e (sym (walk_plain next) ∙ walk_left (On next) told)
-
-  pub walk_less : (i next to : ℕ) → to ≡ run_end plain s next → turn i ≡ On next → (i < length s) × (i < to)
-  walk_less i next to e told = (onward.inside i next told, omega (arith, onward.forward i next told))
+  pub past_forward : (i n : ℕ) (r : Turn) → turn i ≡ r → past_plain s r ≡ On n → (i < n) × (i < length s)
+  past_forward i n (On next) e told = let same : run_end plain s next ≡ n = cc in (omega (arith, onward.forward i next e), onward.inside i next e)
+  past_forward i n (Ends m) e told = absurd (let z : ◌≡◌ {A = ℕ} 0 1 = cc in omega arith)
+  past_forward i n (Breaks p) e told = absurd (let z : ◌≡◌ {A = ℕ} 0 1 = cc in omega arith)
 
 -- ---- a text that begins with plain bytes
 
@@ -67,6 +65,6 @@ module _ (s : List ℕ) (at e : ℕ) (plainly : e ≡ run_end plain s at) where
   unfolding text_at
   text_left = rw plainly (sym (walk_plain (text_turn s) s (text_onward s) (text_plain s) at))
 
-  pub text_tag : byte_at s e ≡ 60 → (byte_at s (e + 1) ≡ 33 → ⊥) → To e ≡ text_at s at
+  pub text_tag : byte_at s e ≡ 60 → (byte_at s (e + 1) ≡ 33 → ⊥) → Ok e ≡ text_at s at
   unfolding text_at
   text_tag sign other = sym (walk_turn (text_turn s) s (text_onward s) e (Ends e) (text_sign s e sign other)) ∙ text_left

@@ -11,15 +11,13 @@ use borrow.Author.Tests.{not-true, eqb-true, eqb-false}
 use Rattle.wire.specs.Field.{text, part}
 use Rattle.wire.proofs.Sides.{both_false}
 use Rattle.wire.proofs.Texts.{same_equal}
-use Rattle.letters.specs.Places.{byte_at, going}
+use Rattle.letters.specs.Places.{byte_at, going, Reach}
 use Rattle.letters.specs.Characters.{single, width_at}
 use Rattle.letters.specs.References.{stands, reference_at}
-use Rattle.letters.specs.declared.Reach.{Reach}
-use Rattle.letters.specs.declared.Reach.TheVariants.{To, Broken}
+use Rattle.std.specs.Prelude.{Ok, Err, Option, Some, None}
 use Rattle.letters.specs.declared.Turn.{Turn}
 use Rattle.letters.specs.declared.Turn.TheVariants.{On, Ends, Breaks}
 use Rattle.letters.specs.declared.Reference.{Reference}
-use Rattle.letters.specs.declared.Reference.TheVariants.{Stands, Nothing}
 use Rattle.letters.proofs.Scans.{byte_there}
 use Rattle.letters.proofs.Walks.{Onward, walk_forward, walk_shows}
 use Rattle.letters.proofs.Characters.{front_true, back_true, width_first, width_there}
@@ -96,24 +94,24 @@ module _ (s : List ℕ) (i n : ℕ) where
       (λ t told. let z : ◌≡◌ {A = ℕ} 0 1 = cc in omega arith)
       (λ t told. let z : ◌≡◌ {A = ℕ} 0 1 = cc in omega arith)
 
-  after_section : (r : Reach) → section_at s (i + 9) ≡ r → eqb (byte_at s i) 60 ≡ true → going r ≡ On n → section_at s (i + 9) ≡ To n
-  after_section (To m) e t told = let same : m ≡ n = cc in rw same at e
-  after_section (Broken p) e t told = absurd (let z : ◌≡◌ {A = ℕ} 0 1 = cc in omega arith)
+  after_section : (r : Reach) → section_at s (i + 9) ≡ r → eqb (byte_at s i) 60 ≡ true → going r ≡ On n → section_at s (i + 9) ≡ Ok n
+  after_section (Ok m) e t told = let same : m ≡ n = cc in rw same at e
+  after_section (Err p) e t told = absurd (let z : ◌≡◌ {A = ℕ} 0 1 = cc in omega arith)
 
-  after_reference_lem : (r : Reference) → reference_at s i ≡ r → after_reference r i ≡ On n → Further
-  after_reference_lem (Stands c m) e told =
-      let on = reference_forward s i c m e in
-      let same : m ≡ n = cc in
+  after_reference_lem : (r : Option Reference) → reference_at s i ≡ r → after_reference r i ≡ On n → Further
+  after_reference_lem (Some r) e told =
+      let on = reference_forward s i r.character r.next e in
+      let same : r.next ≡ n = cc in
       (omega arith, omega arith)
-  after_reference_lem Nothing e told = absurd (let z : ◌≡◌ {A = ℕ} 0 1 = cc in omega arith)
+  after_reference_lem None e told = absurd (let z : ◌≡◌ {A = ℕ} 0 1 = cc in omega arith)
 
-  reference_ends : (r : Reference) → after_reference r i ≡ Ends n → ⊥
-  reference_ends (Stands c m) told = let z : ◌≡◌ {A = ℕ} 0 1 = cc in omega arith
-  reference_ends Nothing told = let z : ◌≡◌ {A = ℕ} 0 1 = cc in omega arith
+  reference_ends : (r : Option Reference) → after_reference r i ≡ Ends n → ⊥
+  reference_ends (Some r) told = let z : ◌≡◌ {A = ℕ} 0 1 = cc in omega arith
+  reference_ends None told = let z : ◌≡◌ {A = ℕ} 0 1 = cc in omega arith
 
   going_ends : (r : Reach) → going r ≡ Ends n → ⊥
-  going_ends (To m) told = let z : ◌≡◌ {A = ℕ} 0 1 = cc in omega arith
-  going_ends (Broken p) told = let z : ◌≡◌ {A = ℕ} 0 1 = cc in omega arith
+  going_ends (Ok m) told = let z : ◌≡◌ {A = ℕ} 0 1 = cc in omega arith
+  going_ends (Err p) told = let z : ◌≡◌ {A = ℕ} 0 1 = cc in omega arith
 
   section_on : section_turn s i ≡ On n → Further
   unfolding section_turn
@@ -138,7 +136,7 @@ section_onward s = record {
 }
 
 -- the place after a section
-pub section_forward : (s : List ℕ) (at e : ℕ) → section_at s at ≡ To e → (at ≤ e) × (e ≤ length s)
+pub section_forward : (s : List ℕ) (at e : ℕ) → section_at s at ≡ Ok e → (at ≤ e) × (e ≤ length s)
 unfolding section_at
 section_forward s at e told = (
   walk_forward (section_turn s) s (section_onward s) at e told,
@@ -185,7 +183,7 @@ text_onward s = record {
 }
 
 -- the '<' that ends a text
-pub text_forward : (s : List ℕ) (at e : ℕ) → text_at s at ≡ To e → (at ≤ e) × (e < length s) × (byte_at s e ≡ 60)
+pub text_forward : (s : List ℕ) (at e : ℕ) → text_at s at ≡ Ok e → (at ≤ e) × (e < length s) × (byte_at s e ≡ 60)
 unfolding text_at
 text_forward s at e told =
     let sign : byte_at s e ≡ 60 = walk_shows (text_turn s) (λ n. byte_at s n ≡ 60) (λ i n ends. (text_ends s i n ends).1) s at e told in

@@ -1,16 +1,15 @@
 -- The text of an element: characters, references and CDATA sections; where it ends, and what it says. Assumes nothing.
-use Rattle.std.specs.Prelude.{ℕ, zero, suc, ◌+◌, min, ◌≡◌, Bool, true, false, cond, not, ◌&&◌, List, [], ◌++◌, length, take, replicate, eqb}
+use Rattle.std.specs.Prelude.{ℕ, zero, suc, ◌+◌, min, ◌≡◌, Bool, true, false, cond, not, List, [], ◌++◌, length, take, replicate, eqb, Option, Some, None}
 use Rattle.wire.specs.Field.{text, part}
-use Rattle.letters.specs.Places.{byte_at, going, walk}
+use Rattle.letters.specs.Places.{byte_at, run_end, going, walk, Reach}
 use Rattle.letters.specs.Characters.{width_at, encoded}
 use Rattle.letters.specs.References.{stands, reference_at}
-use Rattle.letters.specs.declared.Reach.{Reach}
 use Rattle.letters.specs.declared.Turn.{Turn}
-use Rattle.letters.specs.declared.Turn.TheVariants.{Ends, Breaks}
+use Rattle.letters.specs.declared.Turn.TheVariants.{On, Ends, Breaks}
 use Rattle.letters.specs.declared.Reference.{Reference}
-use Rattle.letters.specs.declared.Reference.TheVariants.{Stands, Nothing}
 use Rattle.prose.specs.declared.Piece.{Piece}
 use Rattle.prose.specs.declared.Piece.TheVariants.{Itself, Other, Turns, Silent}
+use Rattle.prose.specs.Plain.{plain}
 use Rattle.tags.specs.Attributes.{after_reference, after_character}
 
 abbrev pub section_start : List ℕ
@@ -20,6 +19,12 @@ abbrev pub section_end : List ℕ
 section_end = text "]]>"
 
 -- ---- where a text ends
+
+-- a turn that goes on goes over the plain bytes after it too
+abbrev pub past_plain : List ℕ → Turn → Turn
+past_plain s (On next) = On (run_end plain s next)
+past_plain s (Ends e) = Ends e
+past_plain s (Breaks p) = Breaks p
 
 -- in a section: its end, or a character more
 unfoldable pub section_turn : List ℕ → ℕ → Turn
@@ -49,9 +54,9 @@ text_at s at = walk (text_turn s) s at
 abbrev pub itself_of : ℕ → Piece
 itself_of width = cond (eqb width 0) Silent (Itself width)
 
-abbrev pub other_of : Reference → Piece
-other_of (Stands c next) = Other c next
-other_of Nothing = Silent
+abbrev pub other_of : Option Reference → Piece
+other_of (Some r) = Other r.character r.next
+other_of None = Silent
 
 -- a carriage return, with the line feed after it if there is one, says a line feed
 abbrev pub line_end : List ℕ → ℕ → Piece

@@ -5,9 +5,9 @@ ghost use Rattle.std.specs.Prelude.{◌≡◌};
 ghost use Rattle.letters.specs.Places.{run_end};
 ghost use Rattle.letters.specs.References.{stands};
 ghost use Rattle.prose.specs.Plain.{plain, straight};
-ghost use Rattle.prose.specs.Prose.{section_start, section_end, section_turn, section_at, text_turn, text_at, other_of, plain_piece, piece_at, said_at, Kept};
+ghost use Rattle.prose.specs.Prose.{section_start, section_end, past_plain, section_turn, section_at, text_turn, text_at, other_of, plain_piece, piece_at, said_at, Kept};
 
-use letters::{Reach, Reference, Turn};
+use letters::{Bytes, Reach, Reference, Turn};
 
 // A piece of what a text says: so many bytes that stand for themselves, or one character that is written otherwise and the place after
 // it; the place after the start or the end of a section; or no piece.
@@ -20,6 +20,7 @@ pub enum Piece {
 }
 
 // What a text says, cut to as many bytes as are kept, or filled up with spaces; and how many it says, 36 for more than are kept.
+// Of one size beside its length, since there is no heap.
 #[derive(Clone, Copy)]
 pub struct Said {
     pub bytes: [u8; 35],
@@ -35,18 +36,22 @@ fn is_plain(b: u8) -> bool
     letters::is_single(b) & !((b == b'<') | (b == b'&') | (b == b']'))
 }
 
+#[derive(Clone, Copy)]
+struct PlainByte;
+
+impl Bytes for PlainByte {
+    ghost holds = { λ self. plain };
+
+    fn has(&self, b: u8) -> bool {
+        is_plain(b)
+    }
+}
+
 // The place after the plain bytes that stand here.
 fn plain_end(s: &[u8], at: usize) -> usize
     ensures { result ≡ run_end plain s.now at }
 {
-    let mut i = at;
-    while i < s.len() {
-        if !is_plain(s[i]) {
-            return i;
-        }
-        i += 1;
-    }
-    i
+    letters::run_end(s, at, PlainByte)
 }
 
 // Whether a section starts here. Its first two bytes are asked before it is compared as a whole: most '<' begin a tag.
@@ -74,6 +79,16 @@ fn ends_section(s: &[u8], at: usize) -> bool
 
 // ---- where a text ends
 
+// A turn that goes on goes over the plain bytes after it too.
+fn past_plain(s: &[u8], turn: Turn) -> Turn
+    ensures { result ≡ past_plain s.now turn }
+{
+    match turn {
+        Turn::On(next) => Turn::On(plain_end(s, next)),
+        _ => turn,
+    }
+}
+
 fn section_turn(s: &[u8], at: usize) -> Turn
     ensures { result ≡ section_turn s.now at }
 {
@@ -87,20 +102,7 @@ fn section_turn(s: &[u8], at: usize) -> Turn
 fn section_end(s: &[u8], at: usize) -> Reach
     ensures { result ≡ section_at s.now at }
 {
-    let mut i = at;
-    loop {
-        match section_turn(s, i) {
-            Turn::On(next) => {
-                i = plain_end(s, next);
-            }
-            Turn::Ends(e) => {
-                return Reach::To(e);
-            }
-            Turn::Breaks(p) => {
-                return Reach::Broken(p);
-            }
-        }
-    }
+    letters::walk(s, at, |i| past_plain(s, section_turn(s, i)))
 }
 
 fn text_turn(s: &[u8], at: usize) -> Turn
@@ -111,9 +113,10 @@ fn text_turn(s: &[u8], at: usize) -> Turn
         if !starts_section(s, at) {
             return Turn::Ends(at);
         }
+        // two arms here and in tags: a `From` with its clause would be longer
         return match section_end(s, at + 9) {
-            Reach::To(next) => Turn::On(next),
-            Reach::Broken(p) => Turn::Breaks(p),
+            Ok(next) => Turn::On(next),
+            Err(p) => Turn::Breaks(p),
         };
     }
     if b == b'&' {
@@ -141,20 +144,7 @@ fn short_end(s: &[u8], at: usize) -> usize
 fn rest_end(s: &[u8], at: usize) -> Reach
     ensures { result ≡ text_at s.now at }
 {
-    let mut i = at;
-    loop {
-        match text_turn(s, i) {
-            Turn::On(next) => {
-                i = plain_end(s, next);
-            }
-            Turn::Ends(e) => {
-                return Reach::To(e);
-            }
-            Turn::Breaks(p) => {
-                return Reach::Broken(p);
-            }
-        }
-    }
+    letters::walk(s, at, |i| past_plain(s, text_turn(s, i)))
 }
 
 // The '<' that ends the text which begins here, or where its form is broken. Most texts are plain bytes up to a tag, and cost one test
@@ -167,7 +157,7 @@ pub fn text_end(s: &[u8], at: usize) -> Reach
         return rest_end(s, i);
     }
     if letters::byte_at(s, i + 1) != b'!' {
-        return Reach::To(i);
+        return Ok(i);
     }
     rest_end(s, i)
 }
@@ -181,26 +171,31 @@ fn is_straight(b: u8) -> bool
     is_plain(b) & (b != 13)
 }
 
+#[derive(Clone, Copy)]
+struct StraightByte;
+
+impl Bytes for StraightByte {
+    ghost holds = { λ self. straight };
+
+    fn has(&self, b: u8) -> bool {
+        is_straight(b)
+    }
+}
+
 // The place after the straight bytes that stand here. Where a tag follows them, they are what the text says.
 pub fn straight_end(s: &[u8], at: usize) -> usize
     ensures { result ≡ run_end straight s.now at }
 {
-    let mut i = at;
-    while i < s.len() {
-        if !is_straight(s[i]) {
-            return i;
-        }
-        i += 1;
-    }
-    i
+    letters::run_end(s, at, StraightByte)
 }
 
-fn other_of(r: Reference) -> Piece
+// No `From`: it has one caller, and would be longer.
+fn other_of(r: Option<Reference>) -> Piece
     ensures { result ≡ other_of r }
 {
     match r {
-        Reference::Stands(c, next) => Piece::Other(c, next),
-        Reference::Nothing => Piece::Silent,
+        Some(r) => Piece::Other(r.character, r.next),
+        None => Piece::Silent,
     }
 }
 
@@ -245,6 +240,7 @@ fn piece_at(inside: bool, s: &[u8], at: usize) -> Piece
 }
 
 // What the text that begins here says. It reads no further than what is kept.
+// No `for`: a piece says no byte, one or more, so that nothing counts the turns.
 pub fn said_at(s: &[u8], at: usize) -> Said
     ensures { Kept (said_at s.now at) result.bytes result.length }
 {

@@ -8,6 +8,7 @@ use lib.Dec.{leb, ltb}
 use lib.ListN.{length}
 use lib.Seq.{sets}
 use borrow.Author.Tests.{leb-true, lt-ltb, le-ltb}
+use Rattle.std.specs.Prelude.{Result, Ok, Err}
 use Rattle.elements.specs.Forest.{Forest}
 use Rattle.elements.specs.Grammar.{Parsed, read, broken, deep}
 use Rattle.elements.specs.Questions.{first_lack}
@@ -16,10 +17,8 @@ use Rattle.reading.specs.Meaning.{bulks_in, sheet_in, countable, all_countable, 
 use Rattle.reading.specs.Survey.{survey_of}
 use Rattle.reading.specs.Filling.{Fitting, PutSheet}
 use Rattle.reading.specs.Reading.{outcome, outcome_of, when_made}
-use Rattle.reading.specs.declared.survey.Survey.{Survey}
-use Rattle.reading.specs.declared.survey.Survey.TheVariants as survey
-use Rattle.reading.specs.declared.Reading.{Reading}
-use Rattle.reading.specs.declared.Reading.TheVariants as reading
+use Rattle.reading.specs.declared.Unread.{Unread}
+use Rattle.reading.specs.declared.Unread.TheVariants.{Lack, Short}
 use Rattle.reading.proofs.Sheets.{both, sheet_length}
 
 module _ (s space : List ℕ) where
@@ -35,73 +34,42 @@ module _ (s space : List ℕ) where
     abbrev lack : ℕ
     lack = first_lack f (length s)
 
-    abbrev told : Bool → Bool → Survey
-    told t u = cond t (survey.Lack lack) (cond u (survey.Fine (length (bulks_in s f))) survey.Short)
+    abbrev told : Bool → Bool → Result ℕ Unread
+    told t u = cond t (Err (Lack lack)) (cond u (Ok (length (bulks_in s f))) (Err Short))
 
-    abbrev answer : Bool → Bool → Reading
-    answer t u = cond t (reading.Lack lack) (cond u (reading.Made (length (sheet_in s f))) reading.Short)
+    abbrev answer : Bool → Bool → Result ℕ Unread
+    answer t u = cond t (Err (Lack lack)) (cond u (Ok (length (sheet_in s f))) (Err Short))
 
-  pub fine_fits : (p : Parsed) (bulks : ℕ) → survey_of s (length space) p ≡ survey.Fine bulks → Fitting s p bulks space
+  pub fine_fits : (p : Parsed) (bulks : ℕ) → survey_of s (length space) p ≡ Ok bulks → Fitting s p bulks space
   fine_fits (read n f) bulks e = by_test (ltb (first_lack f (length s)) (length s)) (fits_in s f (length space)) refl e
     where
-      by_test : (t u : Bool) → fits_in s f (length space) ≡ u → told n f t u ≡ survey.Fine bulks → Fitting s (read n f) bulks space
-      by_test true u k e = absurd (let z : ◌≡◌ {A = ℕ} 0 1 = cc in omega arith)
+      by_test : (t u : Bool) → fits_in s f (length space) ≡ u → told n f t u ≡ Ok bulks → Fitting s (read n f) bulks space
+      by_test true u k e = absurd (cc)
       by_test false true k e = let same : length (bulks_in s f) ≡ bulks = cc in rw (← same) (fits_so f n k)
-      by_test false false k e = absurd (let z : ◌≡◌ {A = ℕ} 0 1 = cc in omega arith)
-  fine_fits (broken q) bulks e = absurd (let z : ◌≡◌ {A = ℕ} 0 1 = cc in omega arith)
-  fine_fits (deep q) bulks e = absurd (let z : ◌≡◌ {A = ℕ} 0 1 = cc in omega arith)
+      by_test false false k e = absurd (cc)
+  fine_fits (broken q) bulks e = absurd (cc)
+  fine_fits (deep q) bulks e = absurd (cc)
 
-  pub fine_made : (p : Parsed) (bulks r : ℕ) (after : List ℕ) → survey_of s (length space) p ≡ survey.Fine bulks → PutSheet s p space after r → outcome (reading.Made r) after ≡ outcome_of s space p
+  pub fine_made : (p : Parsed) (bulks r : ℕ) (after : List ℕ) → survey_of s (length space) p ≡ Ok bulks → PutSheet s p space after r → outcome (Ok r) after ≡ outcome_of s space p
   fine_made (read n f) bulks r after e h = by_test (ltb (first_lack f (length s)) (length s)) (fits_in s f (length space)) e
     where
-      by_test : (t u : Bool) → told n f t u ≡ survey.Fine bulks → outcome (reading.Made r) after ≡ outcome (answer n f t u) (when_made (answer n f t u) (sets space 0 (sheet_in s f)) space)
-      by_test true u e = absurd (let z : ◌≡◌ {A = ℕ} 0 1 = cc in omega arith)
+      by_test : (t u : Bool) → told n f t u ≡ Ok bulks → outcome (Ok r) after ≡ outcome (answer n f t u) (when_made (answer n f t u) (sets space 0 (sheet_in s f)) space)
+      by_test true u e = absurd (cc)
       by_test false true e = rw (h.0, h.1)
-      by_test false false e = absurd (let z : ◌≡◌ {A = ℕ} 0 1 = cc in omega arith)
-  fine_made (broken q) bulks r after e h = absurd (let z : ◌≡◌ {A = ℕ} 0 1 = cc in omega arith)
-  fine_made (deep q) bulks r after e h = absurd (let z : ◌≡◌ {A = ℕ} 0 1 = cc in omega arith)
+      by_test false false e = absurd (cc)
+  fine_made (broken q) bulks r after e h = absurd (cc)
+  fine_made (deep q) bulks r after e h = absurd (cc)
 
-  -- ---- refusals: what the first reading tells is answered, and nothing is written
-
-  pub form_told : (p : Parsed) (q : ℕ) → survey_of s (length space) p ≡ survey.Form q → outcome (reading.Form q) space ≡ outcome_of s space p
-  form_told (read n f) q e = by_test (ltb (first_lack f (length s)) (length s)) (fits_in s f (length space)) e
+  -- a refusal: what the first reading tells is answered, and nothing is written
+  pub err_told : (p : Parsed) (e : Unread) → survey_of s (length space) p ≡ Err e → outcome (Err e) space ≡ outcome_of s space p
+  err_told (read n f) e h = by_test (ltb (first_lack f (length s)) (length s)) (fits_in s f (length space)) h
     where
-      by_test : (t u : Bool) → told n f t u ≡ survey.Form q → outcome (reading.Form q) space ≡ outcome (answer n f t u) (when_made (answer n f t u) (sets space 0 (sheet_in s f)) space)
-      by_test true u e = absurd (let z : ◌≡◌ {A = ℕ} 0 1 = cc in omega arith)
-      by_test false true e = absurd (let z : ◌≡◌ {A = ℕ} 0 1 = cc in omega arith)
-      by_test false false e = absurd (let z : ◌≡◌ {A = ℕ} 0 1 = cc in omega arith)
-  form_told (broken r) q e = let same : r ≡ q = cc in rw same
-  form_told (deep r) q e = absurd (let z : ◌≡◌ {A = ℕ} 0 1 = cc in omega arith)
-
-  pub deep_told : (p : Parsed) (q : ℕ) → survey_of s (length space) p ≡ survey.Deep q → outcome (reading.Deep q) space ≡ outcome_of s space p
-  deep_told (read n f) q e = by_test (ltb (first_lack f (length s)) (length s)) (fits_in s f (length space)) e
-    where
-      by_test : (t u : Bool) → told n f t u ≡ survey.Deep q → outcome (reading.Deep q) space ≡ outcome (answer n f t u) (when_made (answer n f t u) (sets space 0 (sheet_in s f)) space)
-      by_test true u e = absurd (let z : ◌≡◌ {A = ℕ} 0 1 = cc in omega arith)
-      by_test false true e = absurd (let z : ◌≡◌ {A = ℕ} 0 1 = cc in omega arith)
-      by_test false false e = absurd (let z : ◌≡◌ {A = ℕ} 0 1 = cc in omega arith)
-  deep_told (broken r) q e = absurd (let z : ◌≡◌ {A = ℕ} 0 1 = cc in omega arith)
-  deep_told (deep r) q e = let same : r ≡ q = cc in rw same
-
-  pub lack_told : (p : Parsed) (q : ℕ) → survey_of s (length space) p ≡ survey.Lack q → outcome (reading.Lack q) space ≡ outcome_of s space p
-  lack_told (read n f) q e = by_test (ltb (first_lack f (length s)) (length s)) (fits_in s f (length space)) e
-    where
-      by_test : (t u : Bool) → told n f t u ≡ survey.Lack q → outcome (reading.Lack q) space ≡ outcome (answer n f t u) (when_made (answer n f t u) (sets space 0 (sheet_in s f)) space)
-      by_test true u e = let same : first_lack f (length s) ≡ q = cc in rw same
-      by_test false true e = absurd (let z : ◌≡◌ {A = ℕ} 0 1 = cc in omega arith)
-      by_test false false e = absurd (let z : ◌≡◌ {A = ℕ} 0 1 = cc in omega arith)
-  lack_told (broken r) q e = absurd (let z : ◌≡◌ {A = ℕ} 0 1 = cc in omega arith)
-  lack_told (deep r) q e = absurd (let z : ◌≡◌ {A = ℕ} 0 1 = cc in omega arith)
-
-  pub short_told : (p : Parsed) → survey_of s (length space) p ≡ survey.Short → outcome (reading.Short) space ≡ outcome_of s space p
-  short_told (read n f) e = by_test (ltb (first_lack f (length s)) (length s)) (fits_in s f (length space)) e
-    where
-      by_test : (t u : Bool) → told n f t u ≡ survey.Short → outcome (reading.Short) space ≡ outcome (answer n f t u) (when_made (answer n f t u) (sets space 0 (sheet_in s f)) space)
-      by_test true u e = absurd (let z : ◌≡◌ {A = ℕ} 0 1 = cc in omega arith)
-      by_test false true e = absurd (let z : ◌≡◌ {A = ℕ} 0 1 = cc in omega arith)
-      by_test false false e = refl
-  short_told (broken r) e = absurd (let z : ◌≡◌ {A = ℕ} 0 1 = cc in omega arith)
-  short_told (deep r) e = absurd (let z : ◌≡◌ {A = ℕ} 0 1 = cc in omega arith)
+      by_test : (t u : Bool) → told n f t u ≡ Err e → outcome (Err e) space ≡ outcome (answer n f t u) (when_made (answer n f t u) (sets space 0 (sheet_in s f)) space)
+      by_test true u h = rw (← h)
+      by_test false true h = absurd (cc)
+      by_test false false h = rw (← h)
+  err_told (broken r) e h = rw (← h)
+  err_told (deep r) e h = rw (← h)
 
 -- ---- from a place on
 

@@ -9,10 +9,10 @@ use lib.ListN.{length, get_or, set}
 use lib.Seq.{sets}
 use borrow.Author.Tests.{eqb-true}
 use Rattle.letters.specs.Places.{byte_at}
-use Rattle.letters.specs.declared.Reach.TheVariants.{To}
+use Rattle.std.specs.Prelude.{Ok, Err}
 use Rattle.tags.specs.Names.{name_start}
 use Rattle.tags.specs.Tags.{start_at, end_at}
-use Rattle.tags.specs.declared.Tag.TheVariants.{Open, Empty, Faulty}
+use Rattle.tags.specs.declared.Tag.TheVariants.{Open, Empty}
 use Rattle.paths.specs.Roles as roles
 use Rattle.records.specs.Records.{message_of}
 use Rattle.elements.specs.Forest.{Forest, none, tree}
@@ -137,24 +137,24 @@ module _ (depth : ℕ) (s : List ℕ) (role j at : ℕ) (d before : List ℕ) (r
       pub end : ℕ
       pub forest : Forest
       pub was : content_at (depth - 1) s role inside ≡ read end forest
-      pub closes : end_at s j end ≡ To n
+      pub closes : end_at s j end ≡ Ok n
       pub is : f ≡ tree role j forest none
 
-    pub inside_read : (e inside : ℕ) → start_at s j ≡ Open e inside → Inside inside
+    pub inside_read : (e inside : ℕ) → start_at s j ≡ Ok (Open e inside) → Inside inside
     inside_read e inside tag =
-        let told : group_at (element_at (depth - 1) s) role s j (Open e inside) ≡ read n f = rw tag at (sym group ∙ ready.was) in
+        let told : group_at (element_at (depth - 1) s) role s j (Ok (Open e inside)) ≡ read n f = rw tag at (sym group ∙ ready.was) in
         let a = went (content_at (depth - 1) s role inside) (λ e f. on_reached (end_at s j e) (λ n. read n (whole role j f))) n f told in
         let c = reached (end_at s j a.mid) (λ n. read n (whole role j a.part)) n f a.then in
         let place : c.mid ≡ n = cc in
         let is : whole role j a.part ≡ f = cc in
-        record { end = a.mid; forest = a.part; was = a.first; closes = c.first ∙ ap To place; is = sym is ∙ noted_so a.part }
+        record { end = a.mid; forest = a.part; was = a.first; closes = c.first ∙ ap Ok place; is = sym is ∙ noted_so a.part }
 
-    pub inside_ready : (e inside : ℕ) → start_at s j ≡ Open e inside → Ready (content_at (depth - 1) s role inside) at d before
+    pub inside_ready : (e inside : ℕ) → start_at s j ≡ Ok (Open e inside) → Ready (content_at (depth - 1) s role inside) at d before
     inside_ready e inside tag =
         let i = inside_read e inside tag in
         record { end = i.end; forest = i.forest; was = i.was; room = rw (← (same_messages i.forest i.is)) ready.room; sized = ready.sized }
 
-    pub group_put : (e inside : ℕ) → start_at s j ≡ Open e inside → (put given : Put) (after notes : List ℕ) → length notes ≡ length before
+    pub group_put : (e inside : ℕ) → start_at s j ≡ Ok (Open e inside) → (put given : Put) (after notes : List ℕ) → length notes ≡ length before
         → PutSo (content_at (depth - 1) s role inside) after notes put → given.next ≡ reached_place (end_at s j put.next) → given.at ≡ put.at
         → PutSo (element_at depth s role j) after (set notes role j) given
     group_put e inside tag put given after notes sized filled next place =
@@ -170,7 +170,7 @@ module _ (depth : ℕ) (s : List ℕ) (role j at : ℕ) (d before : List ℕ) (r
           rw i.is (carried_group role j i.forest before notes (has_note notes sized) inner.1),
         )
 
-    pub bare_put : (e next : ℕ) → start_at s j ≡ Empty e next → (given : Put) → given.next ≡ next → given.at ≡ at → PutSo (element_at depth s role j) d (set before role j) given
+    pub bare_put : (e next : ℕ) → start_at s j ≡ Ok (Empty e next) → (given : Put) → given.next ≡ next → given.at ≡ at → PutSo (element_at depth s role j) d (set before role j) given
     unfolding messages_in
     bare_put e next tag given place same =
         let told : read next (whole role j none) ≡ read n f = rw tag at (sym group ∙ ready.was) in
@@ -183,5 +183,5 @@ module _ (depth : ℕ) (s : List ℕ) (role j at : ℕ) (d before : List ℕ) (r
           rw bare (carried_group role j none before before (has_note before refl) (carried_none before)),
         )
 
-    pub faulty_put : (p : ℕ) → start_at s j ≡ Faulty p → (given : Put) → PutSo (element_at depth s role j) d before given
+    pub faulty_put : (p : ℕ) → start_at s j ≡ Err p → (given : Put) → PutSo (element_at depth s role j) d before given
     faulty_put p tag given = rw (group, tag) (tt, tt)

@@ -8,7 +8,7 @@ use lib.Seq.{sets, length-sets}
 use Rattle.wire.specs.Written.{joined}
 use Rattle.wire.proofs.Stores.{sets_then}
 use Rattle.letters.specs.Places.{byte_at}
-use Rattle.letters.specs.declared.Reach.TheVariants.{To, Broken}
+use Rattle.std.specs.Prelude.{Ok, Err}
 use Rattle.tags.specs.Names.{name_at}
 use Rattle.prose.specs.Prose.{text_at}
 use Rattle.paths.specs.Table.{child_role}
@@ -56,13 +56,13 @@ module _ (element : ℕ → ℕ → Parsed) (s : List ℕ) (role inside at : ℕ
   gathering_starts = record { sofar = none; comes = nothing_yet (content_by element role s inside); place = omega arith; wrote = refl; carried = carried_none before }
 
   module _ (onward : Onward element (length s)) (i m : ℕ) (d notes : List ℕ) (gathering : Gathering element s role inside at i m first d before notes) where
-    pub gathering_broken : (p : ℕ) → text_at s i ≡ Broken p → content_by element role s inside ≡ broken p
+    pub gathering_broken : (p : ℕ) → text_at s i ≡ Err p → content_by element role s inside ≡ broken p
     gathering_broken p e = gathering.comes ∙ (rw (content_broken element role s onward i p e))
 
-    pub gathering_ends : (j : ℕ) → text_at s i ≡ To j → byte_at s (j + 1) ≡ 47 → content_by element role s inside ≡ read j gathering.sofar
+    pub gathering_ends : (j : ℕ) → text_at s i ≡ Ok j → byte_at s (j + 1) ≡ 47 → content_by element role s inside ≡ read j gathering.sofar
     gathering_ends j e h = gathering.comes ∙ (rw (content_ends element role s onward i j e h, beside_none gathering.sofar))
 
-    module _ (j child : ℕ) (text : text_at s i ≡ To j) (more : byte_at s (j + 1) ≡ 47 → ⊥) (is : child ≡ child_role role (name_at s (j + 1))) where
+    module _ (j child : ℕ) (text : text_at s i ≡ Ok j) (more : byte_at s (j + 1) ≡ 47 → ⊥) (is : child ≡ child_role role (name_at s (j + 1))) where
       goes : (r : Parsed) → element child j ≡ r → content_by element role s inside ≡ behind gathering.sofar (on_read r (λ next f. behind f (content_by element role s next)))
       goes r e = gathering.comes ∙ (rw (content_child element role s onward i j r text more (rw (← is) e)))
 

@@ -17,8 +17,7 @@ use Rattle.prose.specs.Prose.{piece_at, saying, said_by, said_at}
 use Rattle.prose.specs.declared.Piece.{Piece}
 use Rattle.prose.specs.declared.Piece.TheVariants.{Itself, Other, Turns, Silent}
 use Rattle.meanings.specs.Meanings as meanings
-use Rattle.meanings.specs.declared.Meant.{Meant}
-use Rattle.meanings.specs.declared.Meant.TheVariants.{Is, Nothing}
+use Rattle.std.specs.Prelude.{Option, Some, None}
 use Rattle.paths.specs.Roles as roles
 use Rattle.fields.specs.Fields.{width_of, meant_bytes, field_bytes}
 use Rattle.records.specs.Records.{Places, there, said_of, field_of, kind_of, marks_of, header_of, message_of}
@@ -97,9 +96,9 @@ module _ (s : List ℕ) (bytes : Bytes s) where
   filled_bytes : (n : ℕ) (t : List ℕ) → Bytes t → Bytes (meanings.filled n t)
   filled_bytes n t h = take_bytes n (t ++ replicate n 32) (append_bytes t (replicate n 32) h (spaces_bytes n))
 
-  meant_bytes_lem : (w : ℕ) (m : Meant) → Bytes (meant_bytes w m)
-  meant_bytes_lem w (Is n) = written_bytes w n
-  meant_bytes_lem w Nothing = written_bytes w 0
+  meant_bytes_lem : (w : ℕ) (m : Option ℕ) → Bytes (meant_bytes w m)
+  meant_bytes_lem w (Some n) = written_bytes w n
+  meant_bytes_lem w None = written_bytes w 0
 
   office_bytes : Bytes (text "XXX")
   office_bytes = three_bytes 88 88 88 (lit< tt) (lit< tt) (lit< tt)

@@ -1,14 +1,18 @@
 -- What is noted of a document is what was asked of it. Assumes nothing.
-use mathlib.Core.Path.{◌≡◌, refl, ap, ◌∙◌}
+use mathlib.Core.Path.{◌≡◌, refl, sym, ap, ◌∙◌}
 use mathlib.Core.List.{List}
-use Prim.Native.Nat.{ℕ, ◌≤◌}
+use Prim.Native.Nat.{ℕ}
 use native.Mathlib.Omega.{arith}
 use lib.ListN.{get_or, set, replicate}
+use Rattle.std.specs.Prelude.{Result, Ok, Err, IfOk}
+use Rattle.std.proofs.lemmas.Result.{IfOk-at_ok}
+use Rattle.elements.specs.declared.Stop.{Stop}
 use Rattle.elements.specs.Forest.{Forest}
 use Rattle.elements.specs.Grammar.{Parsed, read, broken, deep}
-use Rattle.elements.specs.Notes.{notes_of, too_many}
+use Rattle.elements.specs.Notes.{step_of, notes_of}
 use Rattle.elements.proofs.Noting.{noted_lack, noted_messages}
-use Rattle.reading.specs.Survey.{Looked}
+use Rattle.elements.proofs.Steps.{done_read, stopped, err_stopped}
+use Rattle.reading.specs.Survey.{Looked, seen_to}
 use Rattle.reading.specs.declared.survey.Seen.{Seen}
 
 -- notes that are empty but for the place before which something lacks
@@ -23,9 +27,18 @@ looked (read n f) lack notes seen h l m = (
 looked (broken q) lack notes seen h l m = tt
 looked (deep q) lack notes seen h l m = tt
 
-pub looked_read : (p : Parsed) (n : ℕ) (f : Forest) (lack : ℕ) (seen : Seen) → p ≡ read n f → Looked p lack seen → Looked (read n f) lack seen
-looked_read p n f lack seen e h = rw e at h
+-- where a document was read, it was seen whole
+pub record Whole (p : Parsed) (lack : ℕ) (seen : Seen) : Type 0 where
+  pub forest : Forest
+  pub was : p ≡ read seen.next forest
+  pub told : Looked (read seen.next forest) lack seen
 
--- no more messages are told than can be counted, and one
-pub looked_few : (p : Parsed) (n : ℕ) (f : Forest) (lack : ℕ) (seen : Seen) → p ≡ read n f → Looked p lack seen → seen.messages ≤ too_many
-looked_few p n f lack seen e h = omega (arith, (looked_read p n f lack seen e h).1)
+pub seen_whole : (p : Parsed) (lack : ℕ) (r : Result Seen Stop) (seen : Seen) → seen_to r ≡ step_of p → IfOk r (λ seen. Looked p lack seen) → r ≡ Ok seen → Whole p lack seen
+seen_whole p lack r seen step told was =
+    let done = done_read p seen.next (sym step ∙ ap seen_to was) in
+    let its : Looked p lack seen = IfOk-at_ok (λ seen. Looked p lack seen) was told in
+    record { forest = done.forest; was = done.was; told = rw done.was at its }
+
+-- and where it was not, the reason is the reading's
+pub seen_stopped : (p : Parsed) (r : Result Seen Stop) (e : Stop) → seen_to r ≡ step_of p → r ≡ Err e → p ≡ stopped e
+seen_stopped p r e step was = err_stopped p e (sym step ∙ ap seen_to was)

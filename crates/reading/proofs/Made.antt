@@ -8,6 +8,7 @@ use lib.Dec.{leb, ltb}
 use lib.ListN.{length, take}
 use lib.Seq.{sets, sets-eq, take_at}
 use borrow.Author.Tests.{leb-true, ltb-true, ltb-false}
+use Rattle.std.specs.Prelude.{Result, Ok, Err}
 use Rattle.sheet.specs.Sheet.{message_width, kinds_known}
 use Rattle.sheet.proofs.Bulks.{MessagesWide, BulksWide}
 use Rattle.sheet.proofs.Headers.{headers}
@@ -21,8 +22,8 @@ use Rattle.elements.specs.Questions.{first_lack, messages_in}
 use Rattle.reading.specs.Text.{parsed}
 use Rattle.reading.specs.Meaning.{places_in, bulks_in, sheet_in, countable, all_countable, fits_in}
 use Rattle.reading.specs.Reading.{number_of, length_of, answer_of, when_made, written, reads}
-use Rattle.reading.specs.declared.Reading.{Reading}
-use Rattle.reading.specs.declared.Reading.TheVariants.{Made, Lack, Short}
+use Rattle.reading.specs.declared.Unread.{Unread}
+use Rattle.reading.specs.declared.Unread.TheVariants.{Lack, Short}
 use Rattle.reading.proofs.Sheets.{both, map_length}
 
 -- ---- the bulks that documents mean can be written
@@ -65,7 +66,7 @@ pub record WasMade (s space : List ℕ) : Type 0 where
   pub complete : length s ≤ first_lack forest (length s)
   pub writable : Writable (bulks_in s forest)
   pub room : length (sheet_in s forest) ≤ length space
-  pub answer : (reads s space).answer ≡ Made (length (sheet_in s forest))
+  pub answer : (reads s space).answer ≡ Ok (length (sheet_in s forest))
   pub left : (reads s space).sheet ≡ sets space 0 (sheet_in s forest)
 
 module _ (s space : List ℕ) where
@@ -79,8 +80,8 @@ module _ (s space : List ℕ) where
         leb-true (length (sheet_in s f)) (length space) a.1,
       )
 
-  abbrev told : Forest → Bool → Bool → Reading
-  told f t u = cond t (Lack (first_lack f (length s))) (cond u (Made (length (sheet_in s f))) Short)
+  abbrev told : Forest → Bool → Bool → Result ℕ Unread
+  told f t u = cond t (Err (Lack (first_lack f (length s)))) (cond u (Ok (length (sheet_in s f))) (Err Short))
 
   made_by : (p : Parsed) → parsed s ≡ p → number_of (answer_of s (length space) p) ≡ 0 → WasMade s space
   unfolding reads

@@ -7,6 +7,7 @@ use native.Mathlib.Omega.{arith}
 use lib.Dec.{leb, ltb}
 use lib.ListN.{length, length-append}
 use borrow.Author.Tests.{ltb-true}
+use Rattle.std.specs.Prelude.{Result, Ok, Err}
 use Rattle.wire.specs.Field.{bytes_of}
 use Rattle.wire.specs.Written.{joined}
 use Rattle.wire.proofs.Numbers.{bytes_length}
@@ -19,8 +20,8 @@ use Rattle.elements.specs.Questions.{messages_in}
 use Rattle.reading.specs.Meaning.{places_in, bulk_in, bulks_in, sheet_in, countable, all_countable, fits_in}
 use Rattle.reading.specs.Filling.{section}
 use Rattle.reading.specs.Survey.{needed, enough}
-use Rattle.reading.specs.declared.survey.Survey.{Survey}
-use Rattle.reading.specs.declared.survey.Survey.TheVariants.{Fine, Lack, Short}
+use Rattle.reading.specs.declared.Unread.{Unread}
+use Rattle.reading.specs.declared.Unread.TheVariants.{Lack, Short}
 
 -- ---- parts of a sheet
 
@@ -96,12 +97,12 @@ fits_enough s f space = by_test (countable (length (bulks_in s f))) (all_countab
     by_test false t e = refl
 
 pub concludes : (s : List ℕ) (space lack bulks : ℕ) (short : Bool) (f : Forest) (lacking : ℕ) → lack ≡ lacking → short ≡ not (enough space f) → bulks ≡ length (bulks_in s f)
-    → cond (ltb lack (length s)) (Lack lack) (cond (short || not (countable bulks)) Short (Fine bulks))
-    ≡ cond (ltb lacking (length s)) (Lack lacking) (cond (fits_in s f space) (Fine (length (bulks_in s f))) Short)
+    → cond (ltb lack (length s)) (Err (Lack lack)) (cond (short || not (countable bulks)) (Err Short) (Ok bulks))
+    ≡ cond (ltb lacking (length s)) (Err (Lack lacking)) (cond (fits_in s f space) (Ok (length (bulks_in s f))) (Err Short))
 concludes s space lack bulks short f lacking l e b =
-    rw (l, fits_enough s f space, e) (ap (λ (r : Survey). cond (ltb lacking (length s)) (Lack lacking) r) (by_test (enough space f) (countable (length (bulks_in s f))) refl))
+    rw (l, fits_enough s f space, e) (ap (λ (r : Result ℕ Unread). cond (ltb lacking (length s)) (Err (Lack lacking)) r) (by_test (enough space f) (countable (length (bulks_in s f))) refl))
   where
-    by_test : (n c : Bool) → countable (length (bulks_in s f)) ≡ c → cond (not n || not (countable bulks)) Short (Fine bulks) ≡ cond (c && n) (Fine (length (bulks_in s f))) Short
+    by_test : (n c : Bool) → countable (length (bulks_in s f)) ≡ c → cond (not n || not (countable bulks)) (Err Short) (Ok bulks) ≡ cond (c && n) (Ok (length (bulks_in s f))) (Err Short)
     by_test true true k = rw (b, k)
     by_test true false k = rw (b, k)
     by_test false true k = refl

@@ -1,28 +1,31 @@
 -- The first reading: what was seen of the documents so far, with what is still to be read, comes to the whole. Assumes nothing.
 use mathlib.Core.Path.{◌≡◌, refl, sym, ap, ◌∙◌}
-use mathlib.Core.Bool.{Bool, true, false, cond, not, ◌&&◌, ◌||◌}
+use mathlib.Core.Bool.{Bool, true, false, cond, not, ◌&&◌}
 use mathlib.Core.List.{List, ◌∷◌, ◌++◌}
 use Prim.Native.Nat.{ℕ, ◌+◌, ◌-◌, ◌≤◌, ◌<◌, min}
 use native.Mathlib.Omega.{arith}
 use lib.Dec.{leb, ltb}
 use lib.ListN.{length, length-append}
-use borrow.Author.Tests.{lt-leb, leb-true, leb-false, lt-ltb, le-ltb, ltb-true, ltb-false}
+use borrow.Author.Tests.{le-leb, lt-leb, leb-true, leb-false, lt-ltb, le-ltb, ltb-true, ltb-false}
+use Rattle.std.specs.Prelude.{Option, Some, None, SomeIff, is_some, Err}
 use Rattle.letters.specs.Places.{byte_at}
 use Rattle.wire.specs.Field.{text, same}
 use Rattle.tags.specs.Names.{space_end, name_at}
 use Rattle.paths.specs.Roles as roles
 use Rattle.paths.specs.Table.{root_role, lacks}
 use Rattle.elements.specs.Forest.{Forest, none, tree, beside, count_of}
-use Rattle.elements.specs.Grammar.{Parsed, read, broken, on_read}
+use Rattle.elements.specs.Grammar.{Parsed, read, broken, deep, on_read}
 use Rattle.elements.specs.Notes.{too_many}
 use Rattle.elements.specs.Questions.{first_lack, messages_in}
+use Rattle.elements.specs.declared.Stop.{Stop}
+use Rattle.elements.specs.declared.Stop.TheVariants.{Form, Deep}
+use Rattle.elements.proofs.Steps.{stopped}
 use Rattle.elements.proofs.Forests.{beside_none}
 use Rattle.elements.proofs.Forward.{Shape, stepped, one, element_told}
 use Rattle.reading.specs.Text.{levels, document_at, roots_at}
 use Rattle.reading.specs.Meaning.{bulk_in, bulks_in, countable, all_countable}
-use Rattle.reading.specs.Survey.{message_count, Looked, cost, needed, enough, taken_of}
+use Rattle.reading.specs.Survey.{message_count, Looked, cost, needed, enough, taken_of, unread_of, survey_of}
 use Rattle.reading.specs.declared.survey.Seen.{Seen}
-use Rattle.reading.specs.declared.survey.Room.{Room}
 use Rattle.elements.proofs.Forests.{behind, nothing_yet, further}
 use Rattle.reading.proofs.Roots.{document_onward, roots_end, roots_odd, roots_document}
 
@@ -85,24 +88,27 @@ clipped n = by_test (ltb n too_many) refl
     by_test true e = let h = ltb-true n too_many e in lt-ltb (min n too_many) too_many (omega arith)
     by_test false e = let h = ltb-false n too_many e in le-ltb (min n too_many) too_many (omega arith)
 
-module _ (space before cost left : ℕ) (is : left ≡ space - before) where
-  short_when : (a b c : Bool) → leb before space ≡ b → (not (a && b) || ltb left cost || not c) ≡ not ((a && (c && true)) && leb (before + cost) space)
-  short_when false b c e = refl
-  short_when true false c e = let h = leb-false before space e in by_count c
+module _ (space before cost : ℕ) where
+  -- what is left of the room after one bulk more, if its messages can be counted
+  abbrev after_one : Bool → Option ℕ → Option ℕ
+  after_one c None = None
+  after_one c (Some left) = cond (c && leb cost left) (Some (left - cost)) None
+
+  room_when : (a b c : Bool) → leb before space ≡ b
+      → after_one c (cond (a && b) (Some (space - before)) None) ≡ cond ((a && (c && true)) && leb (before + cost) space) (Some (space - (before + cost))) None
+  room_when false b c e = refl
+  room_when true false false e = refl
+  room_when true false true e = let h = leb-false before space e in rw (lt-leb (before + cost) space (omega arith))
+  room_when true true false e = refl
+  room_when true true true e = by_fit (leb (before + cost) space) refl
     where
-      by_count : (c : Bool) → true ≡ not ((c && true) && leb (before + cost) space)
-      by_count true = rw (lt-leb (before + cost) space (omega (arith, leb-false before space e)))
-      by_count false = refl
-  short_when true true true e = by_fit (leb (before + cost) space) refl
-    where
-      by_fit : (t : Bool) → leb (before + cost) space ≡ t → (ltb left cost || false) ≡ not t
-      by_fit true f = let h = leb-true (before + cost) space f in rw (le-ltb left cost (omega arith))
-      by_fit false f = let h = leb-false (before + cost) space f in let k = leb-true before space e in rw (lt-ltb left cost (omega arith))
-  short_when true true false e = by_left (ltb left cost)
-    where
-      by_left : (t : Bool) → (t || true) ≡ true
-      by_left true = refl
-      by_left false = refl
+      by_fit : (t : Bool) → leb (before + cost) space ≡ t → cond (leb cost (space - before)) (Some (space - before - cost)) None ≡ cond t (Some (space - (before + cost))) None
+      by_fit true f = let h = leb-true (before + cost) space f in let left : space - before - cost ≡ space - (before + cost) = omega arith in rw (le-leb cost (space - before) (omega arith), left)
+      by_fit false f = let h = leb-false (before + cost) space f in let k = leb-true before space e in rw (lt-leb cost (space - before) (omega arith))
+
+-- the room behind the count and the bulks of what was read so far
+abbrev pub room_in : ℕ → Forest → Option ℕ
+room_in space f = cond (enough space f) (Some (space - (4 + needed f))) None
 
 module _ (sofar f inner : Forest) (role place : ℕ) (is : f ≡ tree role place inner none) where
   one_needed : needed (tree role place inner none) ≡ cost (message_count (tree role place inner none))
@@ -119,44 +125,61 @@ module _ (sofar f inner : Forest) (role place : ℕ) (is : f ≡ tree role place
   countable_more : all_countable (beside sofar f) ≡ (all_countable sofar && (countable (length (messages_in f)) && true))
   countable_more = countable_beside sofar f ∙ ap (λ (b : Bool). all_countable sofar && b) (rw is one_countable)
 
-  pub short_more : (space : ℕ) (room : Room) → room.left ≡ space - (4 + needed sofar) → room.short ≡ not (enough space sofar)
-      → (room.short || ltb room.left (cost (message_count f)) || not (countable (message_count f))) ≡ not (enough space (beside sofar f))
-  short_more space room left short =
+  taken_so : (room : Option ℕ) → taken_of room (message_count f) ≡ after_one 0 0 (cost (message_count f)) (countable (length (messages_in f))) room
+  taken_so None = refl
+  taken_so (Some left) = rw (clipped (length (messages_in f)))
+
+  pub room_more : (space : ℕ) → taken_of (room_in space sofar) (message_count f) ≡ room_in space (beside sofar f)
+  room_more space =
       let more : 4 + needed sofar + cost (message_count f) ≡ 4 + needed (beside sofar f) = omega (arith, needed_more) in
-      ap (λ (b : Bool). b || ltb room.left (cost (message_count f)) || not (countable (message_count f))) short
-      ∙ ap (λ (b : Bool). not (all_countable sofar && leb (4 + needed sofar) space) || ltb room.left (cost (message_count f)) || not b) (clipped (length (messages_in f)))
-      ∙ short_when space (4 + needed sofar) (cost (message_count f)) room.left left (all_countable sofar) (leb (4 + needed sofar) space) (countable (length (messages_in f))) refl
-      ∙ ap (λ (n : ℕ). not ((all_countable sofar && (countable (length (messages_in f)) && true)) && leb n space)) more
-      ∙ ap (λ (b : Bool). not (b && leb (4 + needed (beside sofar f)) space)) (sym countable_more)
+      taken_so (room_in space sofar)
+      ∙ room_when space (4 + needed sofar) (cost (message_count f)) (all_countable sofar) (leb (4 + needed sofar) space) (countable (length (messages_in f))) refl
+      ∙ ap (λ (n : ℕ). cond ((all_countable sofar && (countable (length (messages_in f)) && true)) && leb n space) (Some (space - n)) None) more
+      ∙ ap (λ (b : Bool). cond (b && leb (4 + needed (beside sofar f)) space) (Some (space - (4 + needed (beside sofar f)))) None) (sym countable_more)
+
+pub no_room : (space : ℕ) (f : Forest) (short : Bool) → is_some (room_in space f) ≡ not short → short ≡ not (enough space f)
+no_room space f short e = by_tests (enough space f) short e
+  where
+    by_tests : (t short : Bool) → is_some (cond t (Some (space - (4 + needed f))) None) ≡ not short → short ≡ not t
+    by_tests true true e = e
+    by_tests true false e = refl
+    by_tests false true e = refl
+    by_tests false false e = e
 
 -- ---- the loop
 
-pub record Surveying (s : List ℕ) (space first i lack bulks : ℕ) (room : Room) : Type 0 where
+pub record Surveying (s : List ℕ) (space first i lack bulks : ℕ) (room : Option ℕ) : Type 0 where
   pub sofar : Forest
   pub comes : roots_at s first ≡ behind sofar (roots_at s i)
   pub lack_is : lack ≡ first_lack sofar (length s)
   pub bulks_are : bulks ≡ length (bulks_in s sofar)
   pub bulks_low : bulks ≤ i
-  pub left_is : room.left ≡ space - (4 + needed sofar)
-  pub short_is : room.short ≡ not (enough space sofar)
+  pub room_is : room ≡ room_in space sofar
 
 module _ (s : List ℕ) (space first : ℕ) where
-  pub survey_starts : (room : Room) → room.left ≡ space - 4 → room.short ≡ ltb space 4 → Surveying s space first first (length s) 0 room
+  pub survey_starts : (room : Option ℕ) → SomeIff room (4 ≤ space) (space - 4) → Surveying s space first first (length s) 0 room
   unfolding first_lack needed all_countable bulks_in
-  survey_starts room left short =
-      record { sofar = none; comes = nothing_yet (roots_at s first); lack_is = refl; bulks_are = refl; bulks_low = omega arith; left_is = left ∙ (omega arith); short_is = short ∙ by_test (leb 4 space) refl }
+  survey_starts room told =
+      record { sofar = none; comes = nothing_yet (roots_at s first); lack_is = refl; bulks_are = refl; bulks_low = omega arith; room_is = by_room room told }
     where
-      by_test : (t : Bool) → leb 4 space ≡ t → ltb space 4 ≡ not t
-      by_test true e = le-ltb space 4 (leb-true 4 space e)
-      by_test false e = lt-ltb space 4 (leb-false 4 space e)
+      by_room : (room : Option ℕ) → SomeIff room (4 ≤ space) (space - 4) → room ≡ cond (leb 4 space) (Some (space - 4)) None
+      by_room None h = rw (lt-leb 4 space (below h))
+        where
+          below : (4 ≤ space → ⊥) → space < 4
+          below h = omega arith
+      by_room (Some left) h = rw (le-leb 4 space h.0, h.1)
 
-  module _ (i lack bulks : ℕ) (room : Room) (surveying : Surveying s space first i lack bulks room) where
+  module _ (i lack bulks : ℕ) (room : Option ℕ) (surveying : Surveying s space first i lack bulks room) where
     pub survey_odd : i < length s → (byte_at s i ≡ 60 → ⊥) → roots_at s first ≡ broken i
     survey_odd h odd = surveying.comes ∙ (rw (roots_odd s i h odd))
 
     pub survey_stops : (r : Parsed) → i < length s → byte_at s i ≡ 60 → document_at s i ≡ r
         → roots_at s first ≡ behind surveying.sofar (on_read r (λ next f. behind f (roots_at s (space_end s next))))
     survey_stops r h here e = surveying.comes ∙ (rw (roots_document s i r h here e))
+
+    pub unread_stopped : (e : Stop) → i < length s → byte_at s i ≡ 60 → document_at s i ≡ stopped e → Err (unread_of e) ≡ survey_of s space (roots_at s first)
+    unread_stopped (Form p) h here e = rw (survey_stops (broken p) h here e)
+    unread_stopped (Deep p) h here e = rw (survey_stops (deep p) h here e)
 
     pub survey_ends : length s ≤ i → roots_at s first ≡ read i surveying.sofar
     survey_ends h = surveying.comes ∙ (rw (roots_end s i h, beside_none surveying.sofar))
@@ -176,8 +199,7 @@ module _ (s : List ℕ) (space first : ℕ) where
           lack_is = told.0 ∙ ap (first_lack f) surveying.lack_is ∙ sym (lack_beside sofar f (length s));
           bulks_are = counted root.place root.inner root.is;
           bulks_low = let on = document_onward s i next f e in omega (arith, surveying.bulks_low);
-          left_is = rw messages (omega (arith, surveying.left_is));
-          short_is = rw messages (short_more sofar f root.inner role root.place root.is space room surveying.left_is surveying.short_is);
+          room_is = rw (messages, surveying.room_is) (room_more sofar f root.inner role root.place root.is space);
         }
       where
         counted : (place : ℕ) (inner : Forest) → f ≡ tree (root_role (name_at s (i + 1))) place inner none → bulks + 1 ≡ length (bulks_in s (beside surveying.sofar f))

@@ -1,15 +1,14 @@
 -- What the functions of the second reading ask and tell. Assumes nothing.
-use Rattle.std.specs.Prelude.{ℕ, ◌+◌, ◌*◌, ◌≤◌, ◌<◌, ◌≡◌, Bool, true, ◌||◌, List, ◌++◌, map, length, get_or, replicate, eqb}
+use Rattle.std.specs.Prelude.{ℕ, ◌+◌, ◌*◌, ◌≤◌, ◌<◌, ◌≡◌, Bool, true, ◌||◌, List, ◌++◌, map, length, get_or, replicate, eqb, Result, Ok, Err}
 use Rattle.std.proofs.lemmas.List.Edits.{sets}
 use Rattle.wire.specs.Field.{bytes_of}
 use Rattle.wire.specs.Written.{joined}
 use Rattle.sheet.specs.Sheet.{count_width, header_width, Bulk}
-use Rattle.letters.specs.declared.Reach.{Reach}
-use Rattle.letters.specs.declared.Reach.TheVariants.{To, Broken}
+use Rattle.letters.specs.Places.{Reach}
 use Rattle.paths.specs.Roles as roles
 use Rattle.records.specs.Records.{header_of, message_of}
-use Rattle.elements.specs.declared.Step.{Step}
-use Rattle.elements.specs.declared.Step.TheVariants.{Done, Form, Deep}
+use Rattle.elements.specs.declared.Stop.{Stop}
+use Rattle.elements.specs.declared.Stop.TheVariants.{Form, Deep}
 use Rattle.elements.specs.Forest.{Forest}
 use Rattle.elements.specs.Grammar.{Parsed, read, broken, deep}
 use Rattle.elements.specs.Questions.{place_in, messages_in}
@@ -60,14 +59,14 @@ Filled s (deep p) at before after put = Unit {0}
 
 -- ---- places
 
-abbrev pub place_of : Step → ℕ
-place_of (Done n) = n
-place_of (Form p) = p
-place_of (Deep p) = p
+abbrev pub place_of : Result ℕ Stop → ℕ
+place_of (Ok n) = n
+place_of (Err (Form p)) = p
+place_of (Err (Deep p)) = p
 
 abbrev pub reached_place : Reach → ℕ
-reached_place (To n) = n
-reached_place (Broken p) = p
+reached_place (Ok n) = n
+reached_place (Err p) = p
 
 -- below these roles and no others there may be messages
 abbrev pub busy : ℕ → Bool

@@ -1,5 +1,5 @@
 -- What the documents mean: the sheet, each document one bulk. Assumes nothing.
-use Rattle.std.specs.Prelude.{ℕ, ◌+◌, ◌*◌, Bool, true, ◌&&◌, List, [], ◌∷◌, map, length, leb, ltb}
+use Rattle.std.specs.Prelude.{ℕ, Bool, true, ◌&&◌, List, [], ◌∷◌, map, length, leb, ltb}
 use Rattle.sheet.specs.Sheet.{Bulk}
 use Rattle.sheet.specs.Written.{sheet_bytes}
 use Rattle.records.specs.Records.{Places, header_of, message_of}

@@ -4,8 +4,8 @@ use Rattle.letters.specs.Places.{byte_at}
 use Rattle.tags.specs.Names.{space_end, name_at}
 use Rattle.prolog.specs.Prolog.{prolog}
 use Rattle.paths.specs.Table.{root_role}
-use Rattle.elements.specs.Forest.{Forest, none, tree, beside}
-use Rattle.elements.specs.Grammar.{Parsed, read, broken, deep, on_read, on_reached, element_at}
+use Rattle.elements.specs.Forest.{none, beside}
+use Rattle.elements.specs.Grammar.{Parsed, read, broken, on_read, on_reached, element_at}
 
 -- how many levels of elements there may be
 abbrev pub levels : ℕ

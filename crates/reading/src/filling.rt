@@ -9,8 +9,8 @@ ghost use Rattle.elements.specs.Notes.{step_of, notes_of};
 ghost use Rattle.reading.specs.Text.{document_at, roots_at};
 ghost use Rattle.reading.specs.Filling.{note_count, forgotten, Ready, Filled, HeaderNoted, Placed, PutWhole, Fitting, PutSheet, place_of, reached_place, busy};
 
-use elements::Step;
-use letters::Reach;
+use crate::{HEADER_WIDTH, MESSAGE_WIDTH};
+use elements::Stop;
 use tags::Tag;
 
 // After something that was read, and after the messages of it that were written.
@@ -20,13 +20,14 @@ pub struct Put {
     pub at: usize,
 }
 
-fn place_of(step: Step) -> usize
+// No `From`: neither type is this crate's.
+fn place_of(step: Result<usize, Stop>) -> usize
     ensures { result ≡ place_of step }
 {
     match step {
-        Step::Done(n) => n,
-        Step::Form(p) => p,
-        Step::Deep(p) => p,
+        Ok(n) => n,
+        Err(Stop::Form(p)) => p,
+        Err(Stop::Deep(p)) => p,
     }
 }
 
@@ -72,13 +73,13 @@ fn put_one(
     next
 }
 
-// The place after an end tag.
+// The place after an end tag. No `From`: neither type is this crate's.
 fn closed(s: &[u8], j: usize, e: usize) -> usize
     ensures { result ≡ reached_place (end_at s.now j e) }
 {
     match tags::end(s, j, e) {
-        Reach::To(n) => n,
-        Reach::Broken(p) => p,
+        Ok(n) => n,
+        Err(p) => p,
     }
 }
 
@@ -89,7 +90,8 @@ fn holds(role: usize) -> bool
     (role == paths::DOCUMENT) | (role == paths::PAYMENTS) | (role == paths::RETURNS)
 }
 
-// Writes the messages of an element, however deep they stand, and notes what the header needs.
+// Writes the messages of an element, however deep they stand, and notes what the header needs. What is read, written and noted stays apart:
+// `Filled` and `HeaderNoted` tell what is left in each. Place, depth and role stay parameters, as `element_at` takes them.
 #[cycle(gather_put_child)]
 fn put_child(
     d: &mut [u8],
@@ -106,7 +108,10 @@ fn put_child(
 {
     if paths::is_message(role) {
         let next = put_one(d, at, s, j, depth, role, notes);
-        return Put { next, at: at + 81 };
+        return Put {
+            next,
+            at: at + MESSAGE_WIDTH,
+        };
     }
     if !holds(role) {
         return Put {
@@ -115,7 +120,7 @@ fn put_child(
         };
     }
     match tags::start(s, j) {
-        Tag::Open(_, inside) => {
+        Ok(Tag::Open(_, inside)) => {
             let put = gather(d, at, s, inside, depth - 1, role, notes);
             notes[role] = j;
             Put {
@@ -123,11 +128,11 @@ fn put_child(
                 at: put.at,
             }
         }
-        Tag::Empty(_, next) => {
+        Ok(Tag::Empty(_, next)) => {
             notes[role] = j;
             Put { next, at }
         }
-        Tag::Faulty(p) => Put { next: p, at },
+        Err(p) => Put { next: p, at },
     }
 }
 
@@ -150,10 +155,10 @@ fn gather(
     let mut m = at;
     loop {
         match prose::text_end(s, i) {
-            Reach::Broken(p) => {
+            Err(p) => {
                 return Put { next: p, at: m };
             }
-            Reach::To(j) => {
+            Ok(j) => {
                 if letters::byte_at(s, j + 1) == b'/' {
                     return Put { next: j, at: m };
                 }
@@ -172,10 +177,18 @@ fn put_document(d: &mut [u8], h: usize, m: usize, s: &[u8], i: usize) -> Put
     ensures { PutWhole s.now (document_at s.now i) h m d.old d.new result }
 {
     let role = paths::root_role(tags::name_at(s, i + 1));
-    let mut notes = [0usize; 36];
-    let put = put_child(d, m + 4, s, i, elements::LEVELS, role, &mut notes);
+    let mut notes = [0usize; elements::NOTES];
+    let put = put_child(
+        d,
+        m + wire::COUNT_WIDTH,
+        s,
+        i,
+        elements::LEVELS,
+        role,
+        &mut notes,
+    );
     records::put_header(d, h, s, &notes);
-    let messages = (put.at - (m + 4)) / 81;
+    let messages = (put.at - (m + wire::COUNT_WIDTH)) / MESSAGE_WIDTH;
     writing::put_number(d, m, wire::COUNT_WIDTH, messages as u64);
     put
 }
@@ -187,11 +200,11 @@ pub(crate) fn second_reading(d: &mut [u8], s: &[u8], first: usize, bulks: usize)
 {
     writing::put_number(d, 0, wire::COUNT_WIDTH, bulks as u64);
     let mut i = first;
-    let mut h = 4;
-    let mut m = 4 + 65 * bulks;
+    let mut h = wire::COUNT_WIDTH;
+    let mut m = wire::COUNT_WIDTH + HEADER_WIDTH * bulks;
     while i < s.len() {
         let put = put_document(d, h, m, s, i);
-        h += 65;
+        h += HEADER_WIDTH;
         m = put.at;
         i = tags::space_end(s, put.next);
     }

@@ -10,7 +10,7 @@ use Rattle.wire.specs.Field.{bytes_of, number_from, number_of}
 use Rattle.wire.proofs.Numbers.{bytes_length}
 use Rattle.sheet.specs.Sheet as sheet
 use Rattle.paths.specs.Roles as roles
-use Rattle.fields.specs.Fields.{field_bytes, field_width}
+use Rattle.fields.specs.Fields.{field_width}
 use Rattle.fields.proofs.Bytes.{field_length}
 use Rattle.records.specs.Records.{Places, there, said_of, field_of, kind_of, marks_of, header_of, message_of}
 

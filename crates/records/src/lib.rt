@@ -39,68 +39,76 @@ const NAME_PLACE: usize = 66;
 
 // ---- what is noted
 
-fn noted(places: &[usize], role: usize) -> usize
-    ensures { result ≡ get_or places.now role 0 }
-{
-    if role < places.len() { places[role] } else { 0 }
+// A document, and where the text of each role begins in it: 0 where no element plays the role. A slice that roles index, since memory is
+// fixed and any slice is taken.
+#[derive(Clone, Copy)]
+struct Noted<'a> {
+    text: &'a [u8],
+    places: &'a [usize],
 }
 
-// Whether an element plays the role.
-fn is_there(places: &[usize], role: usize) -> bool
-    ensures { result ≡ there (λ k. get_or places.now k 0) role }
-{
-    noted(places, role) != 0
-}
+impl<'a> Noted<'a> {
+    fn place(&self, role: usize) -> usize
+        ensures { result ≡ get_or self.now.places.now role 0 }
+    {
+        self.places.get(role).copied().unwrap_or(0)
+    }
 
-// Where to read the text of a role; a missing one is read at the end, where nothing is said.
-fn text_of(s: &[u8], places: &[usize], role: usize) -> usize
-    ensures { said_at s.now result ≡ said_of s.now (λ k. get_or places.now k 0) role }
-{
-    if is_there(places, role) {
-        noted(places, role)
-    } else {
-        s.len()
+    // Whether an element plays the role.
+    fn is_there(&self, role: usize) -> bool
+        ensures { result ≡ there (λ k. get_or self.now.places.now k 0) role }
+    {
+        self.place(role) != 0
+    }
+
+    // Where to read the text of a role; a missing one is read at the end, where nothing is said.
+    fn text_of(&self, role: usize) -> usize
+        ensures { said_at self.now.text.now result ≡ said_of self.now.text.now (λ k. get_or self.now.places.now k 0) role }
+    {
+        if self.is_there(role) {
+            self.place(role)
+        } else {
+            self.text.len()
+        }
+    }
+
+    // Payments or returns.
+    fn kind(&self) -> u8
+        ensures { result ≡ kind_of (λ k. get_or self.now.places.now k 0) }
+    {
+        if self.is_there(paths::PAYMENTS) {
+            sheet::PAYMENT
+        } else {
+            sheet::RETURN
+        }
+    }
+
+    // How the bulk is settled, through which system, and whether a recipient is named.
+    fn marks(&self) -> u64
+        ensures { result ≡ marks_of self.now.text.now (λ k. get_or self.now.places.now k 0) }
+    {
+        let clearing = fields::clearing_at(self.text, self.text_of(paths::METHOD));
+        let system = fields::system_at(self.text, self.text_of(paths::SYSTEM));
+        let recipient = self.is_there(paths::RECIPIENT);
+        bit_of(clearing) + 2 * bit_of(system) + 4 * bit_of(recipient)
+    }
+
+    // Writes the field of a role from place at on.
+    fn put(&self, d: &mut [u8], at: usize, role: usize)
+        ensures { d.new ≡ sets d.old at (field_of self.now.text.now (λ k. get_or self.now.places.now k 0) role) }
+    {
+        fields::put_field(d, at, role, self.text, self.text_of(role));
     }
 }
 
-// ---- what is not a field's text
-
-// Payments or returns.
-fn kind(places: &[usize]) -> u8
-    ensures { result ≡ kind_of (λ k. get_or places.now k 0) }
-{
-    if is_there(places, paths::PAYMENTS) {
-        sheet::PAYMENT
-    } else {
-        sheet::RETURN
-    }
-}
-
+// No plainer by `From`, since `marks` needs the bound too.
 fn bit_of(fact: bool) -> u64
     ensures { (result ≡ bit fact) × (result < 2) }
 {
     fact as u64
 }
 
-// How the bulk is settled, through which system, and whether a recipient is named.
-fn marks(s: &[u8], places: &[usize]) -> u64
-    ensures { result ≡ marks_of s.now (λ k. get_or places.now k 0) }
-{
-    let clearing = fields::clearing_at(s, text_of(s, places, paths::METHOD));
-    let system = fields::system_at(s, text_of(s, places, paths::SYSTEM));
-    let recipient = is_there(places, paths::RECIPIENT);
-    bit_of(clearing) + 2 * bit_of(system) + 4 * bit_of(recipient)
-}
-
 // ---- writing
-
-// Writes the field of a role from place at on.
-fn put(d: &mut [u8], at: usize, s: &[u8], places: &[usize], role: usize)
-    ensures { d.new ≡ sets d.old at (field_of s.now (λ k. get_or places.now k 0) role) }
-{
-    let from = text_of(s, places, role);
-    fields::put_field(d, at, role, s, from);
-}
 
 // Writes the header of a bulk from place at on. Past the end nothing is written, and no place is a number too large.
 pub fn put_header(d: &mut [u8], at: usize, s: &[u8], places: &[usize])
@@ -109,19 +117,14 @@ pub fn put_header(d: &mut [u8], at: usize, s: &[u8], places: &[usize])
     if d.len() <= at {
         return;
     }
-    writing::put_number(d, at, KIND_WIDTH, kind(places) as u64);
-    put(
-        d,
-        at + BULK_IDENTIFIER_PLACE,
-        s,
-        places,
-        paths::BULK_IDENTIFIER,
-    );
-    put(d, at + SENDER_PLACE, s, places, paths::SENDER);
-    put(d, at + STATED_NUMBER_PLACE, s, places, paths::STATED_NUMBER);
-    put(d, at + STATED_SUM_PLACE, s, places, paths::STATED_SUM);
-    put(d, at + VALUE_DATE_PLACE, s, places, paths::VALUE_DATE);
-    writing::put_number(d, at + MARKS_PLACE, MARKS_WIDTH, marks(s, places));
+    let noted = Noted { text: s, places };
+    writing::put_number(d, at, KIND_WIDTH, noted.kind() as u64);
+    noted.put(d, at + BULK_IDENTIFIER_PLACE, paths::BULK_IDENTIFIER);
+    noted.put(d, at + SENDER_PLACE, paths::SENDER);
+    noted.put(d, at + STATED_NUMBER_PLACE, paths::STATED_NUMBER);
+    noted.put(d, at + STATED_SUM_PLACE, paths::STATED_SUM);
+    noted.put(d, at + VALUE_DATE_PLACE, paths::VALUE_DATE);
+    writing::put_number(d, at + MARKS_PLACE, MARKS_WIDTH, noted.marks());
 }
 
 // Writes a message from place at on, likewise.
@@ -131,10 +134,11 @@ pub fn put_message(d: &mut [u8], at: usize, s: &[u8], places: &[usize])
     if d.len() <= at {
         return;
     }
-    put(d, at, s, places, paths::IDENTIFIER);
-    put(d, at + RECEIVER_PLACE, s, places, paths::RECEIVER);
-    put(d, at + AMOUNT_PLACE, s, places, paths::AMOUNT);
-    put(d, at + ORIGINAL_PLACE, s, places, paths::ORIGINAL_AMOUNT);
-    put(d, at + REASON_PLACE, s, places, paths::REASON);
-    put(d, at + NAME_PLACE, s, places, paths::ORIGINAL_NAME);
+    let noted = Noted { text: s, places };
+    noted.put(d, at, paths::IDENTIFIER);
+    noted.put(d, at + RECEIVER_PLACE, paths::RECEIVER);
+    noted.put(d, at + AMOUNT_PLACE, paths::AMOUNT);
+    noted.put(d, at + ORIGINAL_PLACE, paths::ORIGINAL_AMOUNT);
+    noted.put(d, at + REASON_PLACE, paths::REASON);
+    noted.put(d, at + NAME_PLACE, paths::ORIGINAL_NAME);
 }

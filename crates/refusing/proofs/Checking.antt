@@ -1,86 +1,67 @@
--- How the functions that ask one condition each hand on: where it holds, that is the answer; where not, that of the conditions after it.
--- Assumes nothing.
-use mathlib.Core.Path.{◌≡◌, sym, ap, ◌∙◌}
-use mathlib.Core.Bool.{Bool, true, false, not, ◌&&◌, ◌||◌, false≢true}
-use mathlib.Core.List.{List, [], ◌∷◌}
-use mathlib.Core.Option.{some}
-use Prim.Native.Nat.{ℕ, ◌+◌, ◌*◌, ◌≤◌}
-use lib.Dec.{eqb, ltb}
-use lib.ListN.{length}
-use borrow.Author.Tests.{ltb-false, eqb-true, not-false}
-use Rattle.wire.proofs.Sides.{both_false}
+-- The refusals asked in parts, one after the other, are all of them in their order; and what a whole sheet holds. Assumes nothing.
+use Rattle.std.proofs.Common.{ℕ, ◌+◌, ◌*◌, ◌≤◌, ◌≡◌, refl, sym, ap, ◌∙◌, Bool, true, false, cond, List, [], ◌∷◌, ◌++◌, length, Result, Ok, Err, Option, Some, None}
 use Rattle.sheet.specs.Sheet.{count_width, header_width, shape}
-use Rattle.sheet.proofs.Laws.{whole_facts, shape_facts}
-use Rattle.register.specs.Room.{Formed}
-use Rattle.index.specs.Index.{index_length}
-use Rattle.index.specs.Ready as measured
-use Rattle.refusing.specs.Refusals.{Call, most_bulks, most_messages, refusal_number, length_wrong, holds_given, holds, first_holding}
-use Rattle.refusing.specs.Checking.{from, asked, IndexReady, Measured, Few, Told}
-use Rattle.refusing.specs.declared.Contents.{Contents}
-use Rattle.refusing.specs.declared.Checked.{Checked}
-use Rattle.refusing.specs.declared.Checked.TheVariants.{Stopped, Fine}
+use Rattle.sheet.specs.Reading.{shape_of}
+use Rattle.sheet.proofs.Laws.{whole_facts, shape_facts, shape_none}
+use Rattle.refusing.specs.Refusals.{refusal_number, holds_given, first_holding}
+use Rattle.refusing.specs.Checking.{from, first_of, asks, Measured}
+use Rattle.sheet.specs.declared.Contents.{Contents}
+use Rattle.refusing.specs.declared.Lent.{Lent}
 use Rattle.refusing.specs.declared.Refusal.{Refusal}
-use Rattle.refusing.specs.declared.Refusal.TheVariants.{Sheet}
+use Rattle.refusing.specs.declared.Refusal.TheVariants.{Sheet, Size}
 
--- ---- one condition, then the rest
+-- ---- part by part
 
-module _ (test : Refusal → Bool) (r : Refusal) where
-  pub stops : (later : List Refusal) → from r ≡ r ∷ later → test r ≡ true → first_holding test (from r) ≡ refusal_number r
+abbrev pub number_told : Result Unit Refusal → ℕ
+number_told (Err r) = refusal_number r
+number_told (Ok _) = 0
+
+abbrev pub else_of : Result Unit Refusal → Result Unit Refusal → Result Unit Refusal
+else_of (Err r) later = Err r
+else_of (Ok _) later = later
+
+module _ (test : Refusal → Bool) where
+  number_of_first : (rs : List Refusal) → first_holding test rs ≡ number_told (first_of test rs)
   unfolding first_holding
-  stops later e held = ap (first_holding test) e ∙ (rw held)
+  number_of_first [] = refl
+  number_of_first (r ∷ rs) =
+      elim (test r) as (λ t. cond t (refusal_number r) (first_holding test rs) ≡ number_told (cond t (Err r) (first_of test rs))) [
+        | true ↦ refl
+        | false ↦ number_of_first rs
+      ]
 
-  module _ (next : Refusal) (e : from r ≡ r ∷ from next) (clear : test r ≡ false) (sheet : List ℕ) where
-    first_later : first_holding test (from r) ≡ first_holding test (from next)
-    unfolding first_holding
-    first_later = ap (first_holding test) e ∙ (rw clear)
+  first_of_both : (rs more : List Refusal) → first_of test (rs ++ more) ≡ else_of (first_of test rs) (first_of test more)
+  first_of_both [] more = refl
+  first_of_both (r ∷ rs) more =
+      elim (test r) as (λ t. cond t (Err r) (first_of test (rs ++ more)) ≡ else_of (cond t (Err r) (first_of test rs)) (first_of test more)) [
+        | true ↦ refl
+        | false ↦ first_of_both rs more
+      ]
 
-    pub goes_on : (checked : Checked) → Told next test sheet checked → Told r test sheet checked
-    goes_on (Stopped s) told = first_later ∙ told
-    goes_on (Fine contents) told = (first_later ∙ told.0, told.1)
+  -- what two parts tell, one after the other
+  pub told_by_both : (rs more : List Refusal) (told later : Result Unit Refusal) → told ≡ first_of test rs → later ≡ first_of test more
+      → first_holding test (rs ++ more) ≡ number_told (else_of told later)
+  told_by_both rs more told later e f =
+      number_of_first (rs ++ more) ∙ ap number_told (first_of_both rs more ∙ sym (λ i. else_of (e i) (f i)))
 
-  -- the last one
-  pub passes : (sheet : List ℕ) (contents : Contents) → from r ≡ r ∷ [] → test r ≡ false → Measured sheet contents → Told r test sheet (Fine contents)
-  unfolding first_holding
-  passes sheet contents e clear measured = (ap (first_holding test) e ∙ (rw clear), measured)
+-- ---- the sheet's own condition
 
--- the conditions from the sheet's on do not look at an index
-pub asked_later : (indexed : Bool) (index : List ℕ) (call : Call) (sheet : List ℕ) (checked : Checked)
-    → Told Sheet (λ r. holds r call) sheet checked → Told Sheet (asked indexed index call) sheet checked
-unfolding first_holding holds_given
-asked_later indexed index call sheet (Stopped s) told = told
-asked_later indexed index call sheet (Fine contents) told = told
+module _ (lent : Lent) where
+  pub sheet_stops : (told : Option Contents) → told ≡ None → shape_of told ≡ shape lent.sheet.now → Err Sheet ≡ first_of (asks lent) (from Sheet)
+  unfolding holds_given
+  sheet_stops told e f = rw (shape_none lent.sheet.now (sym f ∙ ap shape_of e))
 
--- ---- an index, where one is lent
-
-pub length_wrong_lem : (indexed : Bool) (index register : List ℕ) (n : ℕ) (t : Bool) → n ≡ index_length register → (indexed && not (eqb (length index) n)) ≡ t
-    → (indexed && length_wrong index register) ≡ t
-length_wrong_lem indexed index register n t e h = rw (← e) h
-
-pub length_right : (indexed : Bool) (index register : List ℕ) → Formed register → (indexed && length_wrong index register) ≡ false → IndexReady indexed register index
-length_right true index register formed e =
-    record { formed = formed; long = λ yes. eqb-true (length index) (index_length register) (not-false _ e) }
-length_right false index register formed e = record { formed = formed; long = λ yes. absurd (false≢true yes) }
-
-pub index_measured : (indexed : Bool) (index register : List ℕ) → IndexReady indexed register index → indexed ≡ true → measured.Measured register index
-index_measured indexed index register ready lent = record { formed = ready.formed; long = ready.long lent }
-
--- ---- tests
-
--- a condition that holds where something is not good
-pub not_good : (good t condition : Bool) → good ≡ condition → not good ≡ t → not condition ≡ t
-not_good good t condition e f = ap not (sym e) ∙ f
+  pub sheet_passes : (contents : Contents) → Measured lent.sheet.now contents → (told : Result Unit Refusal) → told ≡ first_of (asks lent) (from Size)
+      → told ≡ first_of (asks lent) (from Sheet)
+  unfolding holds_given
+  sheet_passes contents m told e = rw m.whole e
 
 -- ---- what a whole sheet holds
 
-pub measured_told : (sheet : List ℕ) (bulks messages : ℕ) → shape sheet ≡ some (bulks, messages) → Measured sheet (record { bulks = bulks; messages = messages })
-measured_told sheet bulks messages e =
-    let facts = shape_facts sheet bulks messages e in
+pub measured_told : (sheet : List ℕ) (told : Option Contents) (contents : Contents) → told ≡ Some contents → shape_of told ≡ shape sheet → Measured sheet contents
+measured_told sheet told contents e f =
+    let facts = shape_facts sheet contents.bulks contents.messages (sym f ∙ ap shape_of e) in
     record { whole = facts.whole; bulk_count = facts.bulks; message_count = facts.messages }
-
-pub few_told : (sheet : List ℕ) (contents : Contents) → Measured sheet contents → (ltb most_bulks contents.bulks || ltb most_messages contents.messages) ≡ false → Few sheet contents
-few_told sheet contents m e =
-    let parts = both_false (ltb most_bulks contents.bulks) (ltb most_messages contents.messages) e in
-    record { measured = m; bulks = ltb-false most_bulks contents.bulks parts.0; messages = ltb-false most_messages contents.messages parts.1 }
 
 pub header_room : (sheet : List ℕ) (contents : Contents) → Measured sheet contents → count_width + header_width * contents.bulks ≤ length sheet
 header_room sheet contents m = rw m.bulk_count (whole_facts sheet m.whole).headed

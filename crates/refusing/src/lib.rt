@@ -1,205 +1,124 @@
-// Whether a file is turned away. Each condition is asked by one function, which hands on to the next where it does not hold, so the
-// order of the functions is the order of the refusals. Nothing is written.
+// Whether a file is turned away. The conditions are asked one after the other, in the order of the refusals, and the first that holds
+// is the answer. Nothing is written.
 #![tactic(auto)]
 
-mod file;
-
-ghost use Rattle.std.specs.Prelude.{◌≡◌, ◌&&◌, not};
-ghost use Rattle.wire.specs.Field.{same};
-ghost use Rattle.register.specs.Room.{Formed};
-ghost use Rattle.index.specs.Index.{index_of};
+ghost use Rattle.std.specs.Prelude.{◌≡◌, true, false, MatchResult};
 ghost use Rattle.refusing.specs.Refusals.{refusal_number};
-ghost use Rattle.refusing.specs.Checking.{call_of, asked, IndexReady, Told};
-ghost use Rattle.refusing.specs.declared.Refusal.TheVariants.{Date, Table, Positions, Register, IndexLength, IndexContents};
+ghost use Rattle.refusing.specs.Checking.{asks, until, from, first_of, Measured, Told};
+ghost use Rattle.refusing.specs.declared.Refusal.TheVariants.{Date, Sheet, Size};
 
 use rules::Terms;
+use sheet::Contents;
 
-// Why a file is turned away, in the order in which the reasons are looked for.
-#[derive(Clone, Copy)]
+const MOST_BULKS: usize = 999;
+
+const MOST_MESSAGES: usize = 15000;
+
+// Why a file is turned away, in the order in which the reasons are looked for, each with its number.
+#[derive(Debug, Clone, Copy, PartialEq, Eq)]
 pub enum Refusal {
-    Date,
-    Table,
-    Positions,
-    Register,
-    IndexLength,
-    IndexContents,
-    Sheet,
-    Size,
-    Kind,
-    Order,
-    Room,
-    Limit,
-    Space,
+    Date = 1,
+    Table = 2,
+    Positions = 3,
+    Register = 4,
+    IndexLength = 12,
+    IndexContents = 13,
+    Sheet = 5,
+    Size = 6,
+    Kind = 7,
+    Order = 8,
+    Room = 9,
+    Limit = 10,
+    Space = 11,
 }
 
-// The bulks and the messages that a whole sheet holds.
+// What a call lends to be looked at, an index where there is one.
 #[derive(Clone, Copy)]
-pub struct Contents {
-    pub bulks: usize,
-    pub messages: usize,
+pub struct Lent<'a> {
+    pub terms: Terms,
+    pub sheet: &'a [u8],
+    pub table: &'a [u8],
+    pub register: &'a [u8],
+    pub positions: &'a [u8],
+    pub report: &'a [u8],
+    pub index: Option<&'a [u8]>,
 }
 
-// The first refusal, or what a file that passes holds.
-#[derive(Clone, Copy)]
-pub enum Checked {
-    Stopped(Refusal),
-    Fine(Contents),
-}
-
-// All conditions, in their order, those of an index where one is lent; the first asks whether the date is one.
-pub fn check(
-    terms: Terms,
-    sheet: &[u8],
-    table: &[u8],
-    register: &[u8],
-    positions: &[u8],
-    report: &[u8],
-    indexed: bool,
-    index: &[u8],
-) -> Checked
-    ensures { Told Date (asked indexed index.now (call_of terms sheet.now table.now register.now positions.now report.now)) sheet.now result }
+// The refusal, where its condition holds.
+fn refuse_if(held: bool, refusal: Refusal) -> Result<(), Refusal>
+    ensures { MatchResult result (λ _. held ≡ false) (λ r. (held ≡ true) × (r ≡ refusal)) }
 {
-    if !calendar::is_date(terms.date) {
-        return Checked::Stopped(Refusal::Date);
-    }
-    from_table(
-        terms, sheet, table, register, positions, report, indexed, index,
-    )
+    if held { Err(refusal) } else { Ok(()) }
 }
 
-// The table's form.
-fn from_table(
-    terms: Terms,
-    sheet: &[u8],
-    table: &[u8],
-    register: &[u8],
-    positions: &[u8],
-    report: &[u8],
-    indexed: bool,
-    index: &[u8],
-) -> Checked
-    ensures { Told Table (asked indexed index.now (call_of terms sheet.now table.now register.now positions.now report.now)) sheet.now result }
+// What is asked before the sheet is looked at.
+#[tactic(auto, unfolding(crate::specs::Refusals::holds_given))]
+fn beside_the_sheet(lent: Lent) -> Result<(), Refusal>
+    ensures { result ≡ first_of (asks lent.entry) (until Sheet) }
 {
-    if !routing::well_formed(table) {
-        return Checked::Stopped(Refusal::Table);
+    let Lent {
+        terms,
+        table,
+        register,
+        positions,
+        ..
+    } = lent;
+    refuse_if(!calendar::is_date(terms.date), Refusal::Date)?;
+    refuse_if(!routing::well_formed(table), Refusal::Table)?;
+    // A position for each row.
+    let rows = routing::rows(table);
+    refuse_if(!positions::fit(positions, rows), Refusal::Positions)?;
+    refuse_if(!register::well_formed(register), Refusal::Register)?;
+    // An index, where one is lent, is as long as the register asks, and the register's own.
+    if let Some(index) = lent.index {
+        let length = index::length_for(register);
+        refuse_if(index.len() != length, Refusal::IndexLength)?;
+        let own = index::is_built(register, index);
+        refuse_if(!own, Refusal::IndexContents)?;
     }
-    from_positions(
-        terms, sheet, table, register, positions, report, indexed, index,
-    )
+    Ok(())
 }
 
-// A position for each row.
-fn from_positions(
-    terms: Terms,
-    sheet: &[u8],
-    table: &[u8],
-    register: &[u8],
-    positions: &[u8],
-    report: &[u8],
-    indexed: bool,
-    index: &[u8],
-) -> Checked
-    ensures { Told Positions (asked indexed index.now (call_of terms sheet.now table.now register.now positions.now report.now)) sheet.now result }
+// What is asked of a whole sheet, and of the space that it needs.
+#[tactic(auto, unfolding(crate::specs::Refusals::holds_given))]
+fn of_the_sheet(lent: Lent, contents: Contents) -> Result<(), Refusal>
+    requires { Measured lent.sheet.now contents }
+    ensures { result ≡ first_of (asks lent.entry) (from Size) }
 {
-    if !positions::fit(positions, routing::rows(table)) {
-        return Checked::Stopped(Refusal::Positions);
-    }
-    from_register(
-        terms, sheet, table, register, positions, report, indexed, index,
-    )
+    let Lent {
+        sheet,
+        register,
+        positions,
+        report,
+        ..
+    } = lent;
+    let Contents { bulks, messages } = contents;
+    let many = MOST_BULKS < bulks || MOST_MESSAGES < messages;
+    refuse_if(many, Refusal::Size)?;
+    refuse_if(!sheet::kinds_known(sheet, bulks), Refusal::Kind)?;
+    refuse_if(sheet::kinds_mixed(sheet, bulks), Refusal::Order)?;
+    // A free place in the register for every bulk and message.
+    refuse_if(register::free(register) < bulks + messages, Refusal::Room)?;
+    // Positions that every message could move by the most.
+    let most = messages as u64 * rules::MOST_CENTS;
+    refuse_if(!positions::room_for_all(positions, most), Refusal::Limit)?;
+    let space = report::space_for(bulks, messages);
+    refuse_if(report.len() < space, Refusal::Space)
 }
 
-// The register's form.
-fn from_register(
-    terms: Terms,
-    sheet: &[u8],
-    table: &[u8],
-    register: &[u8],
-    positions: &[u8],
-    report: &[u8],
-    indexed: bool,
-    index: &[u8],
-) -> Checked
-    ensures { Told Register (asked indexed index.now (call_of terms sheet.now table.now register.now positions.now report.now)) sheet.now result }
+// All conditions, in their order: a refusal, or what a file that passes holds.
+pub fn check(lent: Lent) -> Result<Contents, Refusal>
+    ensures { Told Date (asks lent.entry) lent.entry.sheet.now result }
 {
-    if !register::well_formed(register) {
-        return Checked::Stopped(Refusal::Register);
-    }
-    from_index_length(
-        terms, sheet, table, register, positions, report, indexed, index,
-    )
-}
-
-// An index, where one is lent, is as long as the register asks.
-fn from_index_length(
-    terms: Terms,
-    sheet: &[u8],
-    table: &[u8],
-    register: &[u8],
-    positions: &[u8],
-    report: &[u8],
-    indexed: bool,
-    index: &[u8],
-) -> Checked
-    requires { Formed register.now }
-    ensures { Told IndexLength (asked indexed index.now (call_of terms sheet.now table.now register.now positions.now report.now)) sheet.now result }
-{
-    if indexed & (index.len() != index::length_for(register)) {
-        return Checked::Stopped(Refusal::IndexLength);
-    }
-    from_index_contents(
-        terms, sheet, table, register, positions, report, indexed, index,
-    )
-}
-
-// Whether an index that was lent is another than the register's.
-fn is_another(indexed: bool, register: &[u8], index: &[u8]) -> bool
-    requires { IndexReady indexed register.now index.now }
-    ensures { result ≡ (indexed && not (same index.now (index_of register.now))) }
-{
-    if indexed {
-        return !index::is_built(register, index);
-    }
-    false
-}
-
-// And it is the register's own.
-fn from_index_contents(
-    terms: Terms,
-    sheet: &[u8],
-    table: &[u8],
-    register: &[u8],
-    positions: &[u8],
-    report: &[u8],
-    indexed: bool,
-    index: &[u8],
-) -> Checked
-    requires { IndexReady indexed register.now index.now }
-    ensures { Told IndexContents (asked indexed index.now (call_of terms sheet.now table.now register.now positions.now report.now)) sheet.now result }
-{
-    if is_another(indexed, register, index) {
-        return Checked::Stopped(Refusal::IndexContents);
-    }
-    file::from_sheet(terms, sheet, table, register, positions, report)
+    beside_the_sheet(lent)?;
+    let contents = sheet::measure(lent.sheet).ok_or(Refusal::Sheet)?;
+    of_the_sheet(lent, contents)?;
+    Ok(contents)
 }
 
 // The number of a refusal.
 pub fn number_of(refusal: Refusal) -> u32
     ensures { result ≡ refusal_number refusal }
 {
-    match refusal {
-        Refusal::Date => 1,
-        Refusal::Table => 2,
-        Refusal::Positions => 3,
-        Refusal::Register => 4,
-        Refusal::Sheet => 5,
-        Refusal::Size => 6,
-        Refusal::Kind => 7,
-        Refusal::Order => 8,
-        Refusal::Room => 9,
-        Refusal::Limit => 10,
-        Refusal::Space => 11,
-        Refusal::IndexLength => 12,
-        Refusal::IndexContents => 13,
-    }
+    refusal as u32
 }

@@ -7,7 +7,7 @@ ghost use Rattle.wire.specs.Places.{first_from};
 ghost use Rattle.register.specs.Register.{key_width, key, used, room, in_use, free, key_at, is_there, stands, add};
 ghost use Rattle.register.specs.Room.{FormTold, Parts};
 
-// The tag of a message's key, and of a bulk's.
+// The tag of a message's key, and of a bulk's. Bytes and no enum, since `key_of` takes any.
 pub const MESSAGE: u8 = 1;
 
 pub const BULK: u8 = 2;
@@ -49,22 +49,21 @@ pub fn used(register: &[u8]) -> u32
 pub fn room(register: &[u8]) -> usize
     ensures { result ≡ room register.now }
 {
-    (register.len() - wire::least(USED_WIDTH, register.len())) / ENTRY_WIDTH
+    register.len().saturating_sub(USED_WIDTH) / ENTRY_WIDTH
 }
 
 // The entries in use: no more than there is room for.
 pub fn in_use(register: &[u8]) -> u32
     ensures { result ≡ in_use register.now }
 {
-    wire::least(used(register) as usize, room(register)) as u32
+    (used(register) as usize).min(room(register)) as u32
 }
 
 // The places that are not in use.
 pub fn free(register: &[u8]) -> usize
     ensures { result ≡ free register.now }
 {
-    let all = room(register);
-    all - wire::least(all, used(register) as usize)
+    room(register).saturating_sub(used(register) as usize)
 }
 
 // Whether the register has the form that its layout asks; if not, that is refusal 4.
@@ -105,24 +104,20 @@ fn has_key(register: &[u8], k: usize, key: &[u8], place: usize) -> bool
     requires { (k < in_use register.now) × (length key.now ≡ key_width) × (place + 8 ≤ key_width) }
     ensures { result ≡ same (key_at register.now k) key.now }
 {
-    if !has_word(register, k, key, place) {
-        return false;
-    }
     let at = USED_WIDTH + ENTRY_WIDTH * k;
-    texts::same(&register[at..at + KEY_WIDTH], key)
+    has_word(register, k, key, place) && texts::same(&register[at..at + KEY_WIDTH], key)
 }
 
-// Whether one of the entries from `from` up to `to` has the key.
+// Whether one of the entries from `from` up to `to` has the key. Register, stretch and key stay parameters, here and below: a stretch is cut
+// anew for each turn, so a struct of them would be no plainer.
 fn stands_between(register: &[u8], from: usize, to: usize, key: &[u8], place: usize) -> bool
     requires { (to ≤ in_use register.now) × (length key.now ≡ key_width) × (place + 8 ≤ key_width) }
     ensures { result ≡ is_there (first_from (λ k. same (key_at register.now k) key.now) (to - from) from) }
 {
-    let mut k = from;
-    while k < to {
+    for k in from..to {
         if has_key(register, k, key, place) {
             return true;
         }
-        k += 1;
     }
     false
 }
@@ -134,9 +129,10 @@ fn samples_with_word(register: &[u8], from: usize, to: usize, key: &[u8], place:
     let step = (to - from) / SAMPLES + APART;
     let mut n = 0;
     let mut k = from;
+    // By `step_by` a search takes 2.7 times the instructions: the compiler then no longer writes out the entries of a turn.
     while k < to {
         n += has_word(register, k, key, place) as usize;
-        k += wire::least(step, to - k);
+        k += step.min(to - k);
     }
     n
 }
@@ -150,11 +146,12 @@ fn telling_word(register: &[u8], from: usize, to: usize, key: &[u8]) -> usize
     let mut best = TAG_PLACE - WORD;
     let mut fewest = samples_with_word(register, from, to, key, best);
     let mut place = best;
+    // No range of places: the last step is shorter than the others.
     while 0 < place {
         if fewest == 0 {
             return best;
         }
-        place -= wire::least(place, WORD);
+        place -= place.min(WORD);
         let n = samples_with_word(register, from, to, key, place);
         if n < fewest {
             best = place;
@@ -174,13 +171,11 @@ fn stands_by_turns(register: &[u8], from: usize, to: usize, key: &[u8]) -> bool
     }
     let place = telling_word(register, from, to, key);
     let turns = (to - from) / ENTRIES_A_TURN;
-    let mut i = 0;
-    while i < turns {
+    for i in 0..turns {
         let k = from + ENTRIES_A_TURN * i;
         if stands_between(register, k, k + ENTRIES_A_TURN, key, place) {
             return true;
         }
-        i += 1;
     }
     stands_between(register, from + ENTRIES_A_TURN * turns, to, key, place)
 }

@@ -46,6 +46,7 @@ const MESSAGE_LINE_WIDTH: usize = LINE_HEAD_WIDTH;
 // ---- places
 
 // What the report on so many bulks and messages takes.
+#[tactic(auto, unfolding(crate::specs::Line::message_line_width))]
 pub fn space_for(bulks: usize, messages: usize) -> usize
     requires { (bulks ≤ most_counted) × (messages ≤ most_counted) }
     ensures { result ≡ report_length bulks messages }
@@ -93,6 +94,7 @@ pub fn sections_at(bulks: usize) -> usize
 }
 
 // What a section of n messages takes.
+#[tactic(auto, unfolding(crate::specs::Line::message_line_width))]
 pub fn section_width(n: usize) -> usize
     requires { n < 2 ^ 32 }
     ensures { result ≡ count_width + message_line_width * n }
@@ -109,6 +111,7 @@ pub fn lines_at(section: usize) -> usize
 }
 
 // Where line j stands among the lines of a section.
+#[tactic(auto, unfolding(crate::specs::Line::message_line_width))]
 pub fn line_place(j: usize) -> usize
     requires { j < 2 ^ 32 }
     ensures { result ≡ message_line_width * j }
@@ -125,7 +128,8 @@ pub fn put_count(out: &mut [u8], at: usize, n: usize)
     writing::put_number(out, at, COUNT_WIDTH, n as u64);
 }
 
-// Writes what both kinds of line begin with from place at on.
+// Writes what both kinds of line begin with from place at on. A struct of the three would be made for one call each: no plainer. The
+// outcome is a byte and no enum, since `put_message_line` and `put_bulk_line` take any.
 fn put_head(out: &mut [u8], at: usize, identifier: &[u8], outcome: u8, faults: u16)
     requires { (at + line_head_width ≤ length out.old) × (length identifier.now ≡ identifier_width) }
     ensures { out.new ≡ sets out.old at (line_head identifier.now outcome faults) }
@@ -193,6 +197,7 @@ pub fn bulk_line_at(report: &[u8], i: usize) -> &[u8]
 }
 
 // Line j of a section.
+#[tactic(auto, unfolding(crate::specs::Line::message_line_width))]
 pub fn message_line_at(section: &[u8], j: usize) -> &[u8]
     requires { j < 2 ^ 32 }
     ensures { result.now ≡ message_line_at section.now j }
@@ -245,7 +250,6 @@ pub fn rejected_cents_in(line: &[u8]) -> Cents
     ensures { cents_of result ≡ (totals_in line.now).rejected_cents }
 {
     let field = wire::text_at(line, REJECTED_CENTS_PLACE, REJECTED_CENTS_WIDTH);
-    let low = wire::least(8, field.len());
-    let high = field.len() - low;
+    let high = field.len().saturating_sub(8);
     Cents(wire::number(&field[..high]), wire::number(field))
 }

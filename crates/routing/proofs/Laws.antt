@@ -1,28 +1,25 @@
 -- The laws of the table and of the lookup that the crates above cite, and those that the proofs here share. Assumes nothing.
-use Prim.Native.Char.{code}
 use mathlib.Core.Path.{◌≡◌, refl, sym, ap, ◌∙◌}
 use mathlib.Core.Bool.{Bool, true, false, cond, ◌&&◌, false≢true}
-use mathlib.Core.List.{List, [], ◌∷◌, ◌++◌}
+use mathlib.Core.List.{List}
 use mathlib.Core.Option.{Option, none, some}
-use Prim.Native.Nat.{ℕ, zero, suc, ◌+◌, ◌-◌, ◌*◌, ◌/◌, ◌≤◌, ◌<◌}
-use native.Mathlib.Nat.{sub-zero, zero-sub, suc-sub-suc, zero-add}
+use Prim.Native.Nat.{ℕ, ◌+◌, ◌-◌, ◌*◌, ◌/◌, ◌≤◌, ◌<◌}
+use native.Mathlib.Nat.{sub-zero, lt_of_lt_of_le}
 use native.Mathlib.Omega.{arith}
 use lib.Dec.{leb, eqb}
-use lib.ListN.{length, get_or, take, drop, replicate, replicate-append-replicate, get_or-eq_default}
-use lib.Seq.{sets, sets-eq, length-sets, take_at, take-append-add}
+use lib.ListN.{length, get_or, get_or-eq_default}
 use borrow.Author.Tests.{leb-true, eqb-true, eq-eqb, ne_eqb}
-use Rattle.wire.specs.Field.{part, same}
+use Rattle.std.specs.Prelude.{Option as RustOption, Some, None, Ok}
+use Rattle.std.specs.Option.{option_map}
+use Rattle.wire.specs.Field.{same}
 use Rattle.wire.specs.Places.{first_from, every_from}
 use Rattle.wire.proofs.Numbers.{one_read}
 use Rattle.wire.proofs.Scans.{first_found}
-use Rattle.wire.proofs.Texts.{part_short}
 use Rattle.calendar.specs.Date.{is_date}
-use Rattle.routing.specs.Table.{institution_width, branch_width, bic_width, kind_place, row_width, count_width, most_rows, row_at, rows, stated_rows, known_kind, bic_at, kind_at, kinds_known, well_formed}
-use Rattle.routing.specs.Promise.{Formed, FormTold, HeadTold, Below}
+use Rattle.routing.specs.Table.{bic_width, kind_place, row_width, count_width, most_rows, row_at, rows, stated_rows, known_kind, kind_at, kinds_known, well_formed}
+use Rattle.routing.specs.Promise.{Formed, FormTold, RowTold, ElseHead, RoutedBy, Below, AnswerTold}
 use Rattle.routing.specs.declared.Refusal.TheVariants.{Date, Table, Bic}
-use Rattle.routing.specs.declared.Found.{Found}
-use Rattle.routing.specs.declared.Found.TheVariants.{Row as FoundRow}
-use Rattle.routing.specs.Lookup.{counts, bears, row_of, xxx, head_office, head_office_row, is_head_office, or_else, route, reachable, participates, refused, routed, lookup_number, lookup, option_of}
+use Rattle.routing.specs.Lookup.{bears, row_of, head_office, head_office_row, is_head_office, or_else, route, reachable, participates, refused, routed, lookup_number, lookup, Routed, row_is, option_of}
 
 -- ---- places
 
@@ -74,52 +71,6 @@ pub row_start : (date : ℕ) (table bic : List ℕ) (n : ℕ) → n ≡ rows tab
 unfolding row_of
 row_start date table bic n e = rw (e, sub-zero)
 
--- a row that does not bear the BIC need not be asked whether it counts
-module _ (date : ℕ) (table bic : List ℕ) (i : ℕ) (found : List ℕ) (t : Bool) (read : found ≡ bic_at table i) (tested : t ≡ same found bic) where
-  named : t ≡ same (bic_at table i) bic
-  named = tested ∙ (rw read)
-
-  pub bears_named : t ≡ true → counts date table i ≡ bears date table bic i
-  bears_named e = rw (← named, e)
-
-  pub bears_not_named : t ≡ false → false ≡ bears date table bic i
-  bears_not_named e = rw (← named, e)
-
--- ---- the head office, written over a row of X
-
-abbrev x : ℕ
-x = code "X"
-
-drop_replicate : (k n a : ℕ) → drop k (replicate n a) ≡ replicate (n - k) a
-drop_replicate zero n a = rw sub-zero
-drop_replicate (suc k) zero a = rw zero-sub
-drop_replicate (suc k) (suc n) a = rw suc-sub-suc (drop_replicate k n a)
-
-three_left : (m a : ℕ) → 3 ≤ m → take 3 (replicate m a) ≡ a ∷ a ∷ a ∷ []
-three_left m a h =
-    let more : m ≡ 3 + (m - 3) = omega arith in
-    rw (more, ← (replicate-append-replicate 3 (m - 3) a)) (take_at (replicate 3 a) (replicate (3 + (m - 3) - 3) a) 3 refl)
-
-module _ (bic front text : List ℕ) (ef : front ≡ part bic 0 institution_width) (et : text ≡ sets (replicate bic_width x) 0 front) where
-  front_short : length front ≤ institution_width
-  front_short = rw ef (part_short bic 0 institution_width)
-
-  head_within : length front + branch_width ≤ length text
-  head_within =
-      let long : length text ≡ bic_width = ap length et ∙ length-sets (replicate bic_width x) 0 front in
-      omega (arith, front_short)
-
-  head_written : take (length front + branch_width) text ≡ head_office bic
-  head_written =
-      ap (take (length front + branch_width)) (et ∙ sets-eq front (replicate bic_width x) 0 (omega (arith, front_short)))
-      ∙ take-append-add front (drop (0 + length front) (replicate bic_width x)) 3
-      ∙ ap (λ (l : List ℕ). front ++ take 3 l) (ap (λ (k : ℕ). drop k (replicate bic_width x)) (zero-add (length front)) ∙ drop_replicate (length front) bic_width x)
-      ∙ ap (λ (l : List ℕ). front ++ l) (three_left (bic_width - length front) x (omega (arith, front_short)))
-      ∙ ap (λ (l : List ℕ). l ++ xxx) ef
-
-  pub head_told : HeadTold bic (record { text = text; length = length front + branch_width })
-  head_told = record { whole = rw (et, ef); within = head_within; is = head_written }
-
 -- ---- the three ways of a route
 
 module _ (date : ℕ) (table bic : List ℕ) where
@@ -134,6 +85,19 @@ module _ (date : ℕ) (table bic : List ℕ) where
   pub route_head : none ≡ row_of date table bic → is_head_office bic ≡ false → head_office_row date table bic ≡ route date table bic
   unfolding route
   route_head own head = rw (← own, head)
+
+  -- a search that tells the row of every text tells the row of a BIC
+  pub route_told : (found : List ℕ → RustOption ℕ → Type 0) → ((bytes : List ℕ) (told : RustOption ℕ) → found bytes told → RowTold table (option_of told) (row_of date table bytes))
+      → (told : RustOption ℕ) → RoutedBy found bic told → RowTold table (option_of told) (route date table bic)
+  route_told found says told r = by_own r.own (says bic r.own r.own_found) r.is
+    where
+      by_own : (own : RustOption ℕ) → RowTold table (option_of own) (row_of date table bic) → ElseHead found bic own told → RowTold table (option_of told) (route date table bic)
+      by_own (Some i) here e = rw e record { is = route_own i here.is; within = here.within }
+      by_own None here e = by_test (is_head_office bic) refl
+        where
+          by_test : (t : Bool) → is_head_office bic ≡ t → RowTold table (option_of told) (route date table bic)
+          by_test true head = rw (e.0 head) record { is = route_nowhere here.is head; within = tt }
+          by_test false other = let row = says (head_office bic) told (e.1 other) in record { is = row.is ∙ route_head here.is other; within = row.within }
 
   -- ---- the five ways of a question
 
@@ -154,6 +118,27 @@ module _ (date : ℕ) (table bic : List ℕ) where
       pub lookup_row : length bic ≡ bic_width → (found : Option ℕ) → found ≡ route date table bic → routed table found ≡ lookup date table bic
       unfolding lookup
       lookup_row long found e = rw (dated, formed, eq-eqb (length bic) bic_width long, e)
+
+-- a search that tells one row of every text tells one of a BIC and its head office
+pub routed_one : (found : List ℕ → RustOption ℕ → Type 0) → ((bytes : List ℕ) (x y : RustOption ℕ) → found bytes x → found bytes y → x ≡ y)
+    → (bic : List ℕ) (x y : RustOption ℕ) → RoutedBy found bic x → RoutedBy found bic y → x ≡ y
+routed_one found one bic x y p q = by_own p.own p.is (rw (one bic q.own p.own q.own_found p.own_found) at q.is)
+  where
+    by_own : (own : RustOption ℕ) → ElseHead found bic own x → ElseHead found bic own y → x ≡ y
+    by_own (Some i) e f = e ∙ sym f
+    by_own None e f = by_test (is_head_office bic) refl
+      where
+        by_test : (t : Bool) → is_head_office bic ≡ t → x ≡ y
+        by_test true head = e.0 head ∙ sym (f.0 head)
+        by_test false other = one (head_office bic) x y (e.1 other) (f.1 other)
+
+-- ---- an answer: the row that was found, if one was
+
+module _ (table : List ℕ) (expected : Routed) (formed : Formed table) (reached : Bool) where
+  pub answer_told : (found : RustOption ℕ) → routed table (option_of found) ≡ expected → Below (rows table) (option_of found) → reached ≡ reachable table (option_of found)
+      → AnswerTold table (Ok (option_map (λ i. record { place = i; reachable = reached }) found)) expected
+  answer_told None is within same = record { is = is; within = tt; small = tt }
+  answer_told (Some i) is within same = record { is = ap (row_is i) same ∙ is; within = within; small = lt_of_lt_of_le within formed.few }
 
 -- ---- a row that was found is a row of the table
 
@@ -184,6 +169,3 @@ reachable_row table (some i) e = (i, refl)
 pub participates_row : (table : List ℕ) (found : Option ℕ) → participates table found ≡ true → (i : ℕ) × (found ≡ some i)
 participates_row table none e = absurd (false≢true e)
 participates_row table (some i) e = (i, refl)
-
-pub found_below : (table : List ℕ) (found : Found) (i : ℕ) → found ≡ FoundRow i → Below (rows table) (option_of found) → i < rows table
-found_below table found i e within = rw e at within

@@ -1,5 +1,5 @@
 -- The row of a BIC on a date, whether it is reachable, and what a question is answered with. Assumes nothing.
-use Rattle.std.specs.Prelude.{ℕ, Bool, false, cond, not, ◌&&◌, List, ◌++◌, length, take, leb, eqb}
+use Rattle.std.specs.Prelude.{ℕ, Bool, false, cond, not, ◌&&◌, List, ◌++◌, length, take, leb, eqb, Option as RustOption, Some, None, Result, Ok, Err}
 use Rattle.std.proofs.Math.Option.{Option, none, some}
 use Rattle.wire.specs.Field.{bit, text, part, same}
 use Rattle.wire.specs.Places.{first_from}
@@ -7,10 +7,7 @@ use Rattle.calendar.specs.Date.{is_date}
 use Rattle.routing.specs.Table.{institution_width, branch_width, bic_width, not_reachable, participant, rows, bic_at, first_date, last_date, kind_at, well_formed}
 use Rattle.routing.specs.declared.Refusal.{Refusal}
 use Rattle.routing.specs.declared.Refusal.TheVariants.{Date, Table, Bic}
-use Rattle.routing.specs.declared.Found.{Found}
-use Rattle.routing.specs.declared.Found.TheVariants.{Row as FoundRow, Nothing}
-use Rattle.routing.specs.declared.Answer.{Answer}
-use Rattle.routing.specs.declared.Answer.TheVariants.{Refused, Missing, Row}
+use Rattle.routing.specs.declared.Row.{Row}
 
 -- ---- the row
 
@@ -92,13 +89,13 @@ lookup date table bic =
     (cond (not (eqb (length bic) bic_width)) (refused (lookup_number Bic))
     (routed table (route date table bic))))
 
--- ---- the values of the enums
+-- ---- what the functions tell
 
-abbrev pub option_of : Found → Option ℕ
-option_of (FoundRow i) = some i
-option_of Nothing = none
+abbrev pub option_of : RustOption ℕ → Option ℕ
+option_of (Some i) = some i
+option_of None = none
 
-abbrev pub values_of : Answer → Routed
-values_of (Refused r) = refused (lookup_number r)
-values_of Missing = missing
-values_of (Row i b) = row_is i b
+abbrev pub values_of : Result (RustOption Row) Refusal → Routed
+values_of (Err r) = refused (lookup_number r)
+values_of (Ok None) = missing
+values_of (Ok (Some row)) = row_is row.place row.reachable

@@ -2,10 +2,11 @@
 // or reports, and writes to nothing: it can be had without the judge, and the contract of `lookup` is all that one needs.
 #![tactic(auto)]
 
-ghost use Rattle.std.specs.Prelude.{◌≡◌, ◌+◌, ◌≤◌, length};
+ghost use Rattle.std.specs.Prelude.{◌≡◌, ◌+◌, ◌≤◌, length, take};
+ghost use Rattle.std.specs.Fn.{FnReturnsAt};
 ghost use Rattle.wire.specs.Field.{number_at};
 ghost use Rattle.routing.specs.Table.{date_width, row_at, row_width, bic_at, rows, known_kind, kind_at, kinds_known};
-ghost use Rattle.routing.specs.Promise.{FormTold, RowTold, HeadTold, AnswerTold};
+ghost use Rattle.routing.specs.Promise.{FormTold, RowTold, RoutedBy, HeadTold, AnswerTold};
 ghost use Rattle.routing.specs.Lookup.{lookup_number, option_of, counts, bears, row_of, head_office_row, is_head_office, route, reachable, participates, lookup};
 
 use wire::COUNT_WIDTH;
@@ -28,7 +29,7 @@ pub const ROW_WIDTH: usize = KIND_PLACE + 1;
 
 const MOST_ROWS: usize = 8192;
 
-// The kinds of a row.
+// The kinds of a row. Numbers and no enum: a table may state any byte, and `known_kind` is what tells.
 const NOT_REACHABLE: u8 = 0;
 
 const PARTICIPANT: u8 = 5;
@@ -38,33 +39,35 @@ const HOLDER: u8 = 6;
 const THROUGH_STEP2: u8 = 20;
 
 // Why a question is turned away.
-#[derive(Clone, Copy)]
+#[derive(Debug, Clone, Copy, PartialEq, Eq)]
 pub enum Refusal {
-    Date,
-    Table,
-    Bic,
-}
-
-// The place of a row, if there is one.
-#[derive(Clone, Copy)]
-pub enum Found {
-    Row(usize),
-    Nothing,
+    Date = 1,
+    Table = 2,
+    Bic = 18,
 }
 
 // The BIC of a head office: so many characters of the text. Of a BIC shorter than an institution's it is shorter.
+// An array with its length: there is no heap, and `HeadTold` names both.
 #[derive(Clone, Copy)]
 pub struct HeadOffice {
     pub text: [u8; BIC_WIDTH],
     pub length: usize,
 }
 
-// What a question of the table is answered with.
-#[derive(Clone, Copy)]
-pub enum Answer {
-    Refused(Refusal),
-    Missing,
-    Row { place: usize, reachable: bool },
+impl HeadOffice {
+    pub fn as_slice(&self) -> &[u8]
+        requires { self.now.length ≤ length self.now.text }
+        ensures { result.now ≡ take self.now.length self.now.text }
+    {
+        &self.text[..self.length]
+    }
+}
+
+// The row that a question is answered with.
+#[derive(Debug, Clone, Copy, PartialEq, Eq)]
+pub struct Row {
+    pub place: usize,
+    pub reachable: bool,
 }
 
 // The whole rows that the table holds.
@@ -104,13 +107,10 @@ pub fn well_formed(table: &[u8]) -> bool
 fn kinds_known(table: &[u8]) -> bool
     ensures { result ≡ kinds_known table.now }
 {
-    let n = rows(table);
-    let mut i = 0;
-    while i < n {
+    for i in 0..rows(table) {
         if !known_kind(kind_at(table, i)) {
             return false;
         }
-        i += 1;
     }
     true
 }
@@ -123,7 +123,7 @@ fn date_at(table: &[u8], at: usize) -> u32
     wire::four_at(table, at) as u32
 }
 
-// Whether row i counts on the date.
+// Whether row i counts on the date. A row is its number beside the table: a struct of both would be made for each row asked, no plainer.
 pub fn counts(date: u32, table: &[u8], i: usize) -> bool
     requires { row_at i + row_width ≤ length table.now }
     ensures { result ≡ counts date table.now i }
@@ -145,26 +145,19 @@ fn bears(date: u32, table: &[u8], bic: &[u8], i: usize) -> bool
     requires { row_at i + row_width ≤ length table.now }
     ensures { result ≡ bears date table.now bic.now i }
 {
-    if texts::same(bic_at(table, i), bic) {
-        counts(date, table, i)
-    } else {
-        false
-    }
+    texts::same(bic_at(table, i), bic) && counts(date, table, i)
 }
 
-// The first row that counts on the date and bears the BIC.
-pub fn row_of(date: u32, table: &[u8], bic: &[u8]) -> Found
+// The first row that counts on the date and bears the BIC. The three stay parameters, as `lookup` takes them.
+pub fn row_of(date: u32, table: &[u8], bic: &[u8]) -> Option<usize>
     ensures { RowTold table.now (option_of result) (row_of date table.now bic.now) }
 {
-    let n = rows(table);
-    let mut i = 0;
-    while i < n {
+    for i in 0..rows(table) {
         if bears(date, table, bic, i) {
-            return Found::Row(i);
+            return Some(i);
         }
-        i += 1;
     }
-    Found::Nothing
+    None
 }
 
 // The BIC of the head office: the first eight characters followed by XXX.
@@ -185,83 +178,68 @@ pub fn is_head_office(bic: &[u8]) -> bool
 }
 
 // The same for the head office.
-pub fn head_office_row(date: u32, table: &[u8], bic: &[u8]) -> Found
+pub fn head_office_row(date: u32, table: &[u8], bic: &[u8]) -> Option<usize>
     ensures { RowTold table.now (option_of result) (head_office_row date table.now bic.now) }
 {
     let head = head_office(bic);
-    let text = head.text;
-    let n = head.length;
-    row_of(date, table, &text[..n])
+    row_of(date, table, head.as_slice())
+}
+
+// The row of a BIC, its own, else that of its head office, by any way of finding the row of a text.
+pub fn route_by<F: Fn(&[u8]) -> Option<usize>>(bic: &[u8], row_of: F) -> Option<usize>
+    requires { F.IsAlwaysCallable row_of }
+    ensures { RoutedBy (FnReturnsAt F.Fn row_of) bic.now result }
+{
+    let own = row_of(bic);
+    if own.is_some() | is_head_office(bic) {
+        return own;
+    }
+    let head = head_office(bic);
+    row_of(head.as_slice())
 }
 
 // The row of a BIC: its own, else that of its head office.
-pub fn route(date: u32, table: &[u8], bic: &[u8]) -> Found
+pub fn route(date: u32, table: &[u8], bic: &[u8]) -> Option<usize>
     ensures { RowTold table.now (option_of result) (route date table.now bic.now) }
 {
-    let own = row_of(date, table, bic);
-    match own {
-        Found::Row(i) => Found::Row(i),
-        Found::Nothing => {
-            if is_head_office(bic) {
-                Found::Nothing
-            } else {
-                head_office_row(date, table, bic)
-            }
-        }
-    }
+    route_by(bic, |text| row_of(date, table, text))
 }
 
 // Whether a row was found and its kind doesn't say that it is not reachable.
-pub fn reachable(table: &[u8], row: Found) -> bool
+pub fn reachable(table: &[u8], row: Option<usize>) -> bool
     ensures { result ≡ reachable table.now (option_of row) }
 {
-    match row {
-        Found::Row(i) => kind_at(table, i) != NOT_REACHABLE,
-        Found::Nothing => false,
-    }
+    row.is_some_and(|i| kind_at(table, i) != NOT_REACHABLE)
 }
 
 // Whether a row was found and is a participant's.
-pub fn participates(table: &[u8], row: Found) -> bool
+pub fn participates(table: &[u8], row: Option<usize>) -> bool
     ensures { result ≡ participates table.now (option_of row) }
 {
-    match row {
-        Found::Row(i) => kind_at(table, i) == PARTICIPANT,
-        Found::Nothing => false,
-    }
+    row.is_some_and(|i| kind_at(table, i) == PARTICIPANT)
 }
 
 // The whole question, for a caller that has checked nothing.
-pub fn lookup(date: u32, table: &[u8], bic: &[u8]) -> Answer
+pub fn lookup(date: u32, table: &[u8], bic: &[u8]) -> Result<Option<Row>, Refusal>
     ensures { AnswerTold table.now result (lookup date table.now bic.now) }
 {
     if !calendar::is_date(date) {
-        return Answer::Refused(Refusal::Date);
+        return Err(Refusal::Date);
     }
     if !well_formed(table) {
-        return Answer::Refused(Refusal::Table);
+        return Err(Refusal::Table);
     }
     if bic.len() != BIC_WIDTH {
-        return Answer::Refused(Refusal::Bic);
+        return Err(Refusal::Bic);
     }
     let found = route(date, table, bic);
-    let reached = reachable(table, found);
-    match found {
-        Found::Row(i) => Answer::Row {
-            place: i,
-            reachable: reached,
-        },
-        Found::Nothing => Answer::Missing,
-    }
+    let reachable = reachable(table, found);
+    Ok(found.map(|place| Row { place, reachable }))
 }
 
 // The number of a refusal.
 pub fn number_of(refusal: Refusal) -> u32
     ensures { result ≡ lookup_number refusal }
 {
-    match refusal {
-        Refusal::Date => 1,
-        Refusal::Table => 2,
-        Refusal::Bic => 18,
-    }
+    refusal as u32
 }

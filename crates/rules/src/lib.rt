@@ -8,7 +8,6 @@ ghost use Rattle.tally.specs.Tally.{cents_of};
 ghost use Rattle.rules.specs.OfBulk.{marks_wrong, no_participant, date_wrong, date_closed, empty, number_wrong, sum_wrong};
 ghost use Rattle.rules.specs.OfMessage.{receiver_badly_formed, unreachable, amount_wrong, tells_original, reason_unknown, name_unknown, returned_amount_wrong};
 
-use routing::Found;
 use tally::Cents;
 
 // What a call asks to be judged by, besides its bytes.
@@ -20,7 +19,7 @@ pub struct Terms {
 // The EPC limit of an amount.
 pub const MOST_CENTS: u64 = 99999999999;
 
-// The bits of a header's marks.
+// The bits of a header's marks. Numbers and no enum: `masks::shows` takes any bit.
 const CLRG: u16 = 0;
 
 const EKS: u16 = 1;
@@ -33,7 +32,7 @@ const RECIPIENT: u16 = 2;
 pub fn marks_wrong(marks: u8) -> bool
     ensures { result ≡ marks_wrong marks }
 {
-    let mask = marks as u16;
+    let mask = u16::from(marks);
     !(masks::shows(mask, CLRG)
         & masks::shows(mask, EKS)
         & !masks::shows(mask, RECIPIENT)
@@ -41,7 +40,7 @@ pub fn marks_wrong(marks: u8) -> bool
 }
 
 // Whether the sender's row is missing or no participant's.
-pub fn no_participant(table: &[u8], row: Found) -> bool
+pub fn no_participant(table: &[u8], row: Option<usize>) -> bool
     ensures { result ≡ no_participant table.now (option_of row) }
 {
     !routing::participates(table, row)
@@ -92,7 +91,7 @@ pub fn receiver_badly_formed(receiver: &[u8]) -> bool
 }
 
 // Whether the receiver's row is missing or not reachable.
-pub fn unreachable(table: &[u8], row: Found) -> bool
+pub fn unreachable(table: &[u8], row: Option<usize>) -> bool
     ensures { result ≡ unreachable table.now (option_of row) }
 {
     !routing::reachable(table, row)
@@ -109,33 +108,21 @@ pub fn amount_wrong(amount: u64) -> bool
 pub fn tells_original(kind: u8, original: u64, reason: &[u8], name: &[u8]) -> bool
     ensures { result ≡ tells_original kind original reason.now name.now }
 {
-    if kind == sheet::PAYMENT {
-        (original != 0) | !codes::blank(reason) | !codes::blank(name)
-    } else {
-        false
-    }
+    (kind == sheet::PAYMENT) && ((original != 0) | !codes::blank(reason) | !codes::blank(name))
 }
 
 // Whether a return gives no reason of the list.
 pub fn reason_unknown(kind: u8, reason: &[u8]) -> bool
     ensures { result ≡ reason_unknown kind reason.now }
 {
-    if kind == sheet::RETURN {
-        !codes::known_reason(reason)
-    } else {
-        false
-    }
+    (kind == sheet::RETURN) && !codes::known_reason(reason)
 }
 
 // Whether a return names no message that may be returned.
 pub fn name_unknown(kind: u8, name: &[u8]) -> bool
     ensures { result ≡ name_unknown kind name.now }
 {
-    if kind == sheet::RETURN {
-        !codes::known_name(name)
-    } else {
-        false
-    }
+    (kind == sheet::RETURN) && !codes::known_name(name)
 }
 
 // Whether a return is over more than the original, or over less where no charge may be taken off. The reason is looked at only where

@@ -13,10 +13,8 @@ fn put_section(out: &mut [u8], at: usize, section: &[u8]) -> usize
 {
     let count = layout::count_in(section);
     let mut next = wire::least(at, out.len());
-    let mut i = 0;
-    while i < count {
+    for i in 0..count {
         next = lines::put_message(out, next, layout::message_line_at(section, i));
-        i += 1;
     }
     next
 }
@@ -28,12 +26,10 @@ fn put_report(out: &mut [u8], at: usize, report: &[u8]) -> usize
     let bulks = layout::count_in(report);
     let mut next = wire::least(at, out.len());
     let mut place = layout::sections_place(bulks);
-    let mut i = 0;
-    while i < bulks {
+    for i in 0..bulks {
         let told = lines::put_bulk(out, next, layout::bulk_line_at(report, i));
         next = put_section(out, told, layout::sections_from(report, place));
         place = layout::next_section(report, place);
-        i += 1;
     }
     next
 }
@@ -44,10 +40,8 @@ fn put_positions(out: &mut [u8], at: usize, positions: &[u8]) -> usize
 {
     let rows = positions::rows(positions);
     let mut next = wire::least(at, out.len());
-    let mut i = 0;
-    while i < rows {
+    for i in 0..rows {
         next = figures::put_position(out, next, i, positions::position_at(positions, i));
-        i += 1;
     }
     next
 }

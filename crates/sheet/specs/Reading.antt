@@ -1,5 +1,5 @@
--- What the sheet's functions ask and tell, and the definition's values for the cases of `Shape`. Assumes nothing.
-use Rattle.std.specs.Prelude.{ℕ, ◌+◌, ◌≤◌, ◌≡◌, List, length}
+-- What the sheet's functions ask and tell, and the measure that the definition speaks of. Assumes nothing.
+use Rattle.std.specs.Prelude.{ℕ, ◌+◌, ◌≤◌, ◌≡◌, List, length, Option as RustOption, Some, None}
 use Rattle.std.proofs.Math.Option.{Option, none, some}
 use Rattle.sheet.specs.Sheet.{count_width, header_width, message_width, header_at, message_at, count_at, after_messages, first_section, kind_of, stated_number_of, stated_sum_of, value_date_of, marks_of, amount_of, original_of}
 use Rattle.sheet.specs.declared.Counted.{Counted}
@@ -7,8 +7,7 @@ use Rattle.sheet.specs.declared.Header.{Header}
 use Rattle.sheet.specs.declared.Message.{Message}
 use Rattle.sheet.specs.declared.Walk.{Walk}
 use Rattle.sheet.specs.declared.BulkRead.{BulkRead}
-use Rattle.sheet.specs.declared.Shape.{Shape}
-use Rattle.sheet.specs.declared.Shape.TheVariants.{Broken, Whole}
+use Rattle.sheet.specs.declared.Contents.{Contents}
 
 -- the bytes of a header and of a message that were read
 abbrev pub header_in : List ℕ → Header → List ℕ
@@ -60,6 +59,6 @@ pub record BulkTaken (sheet : List ℕ) (head at : ℕ) (read : BulkRead) : Type
 
 -- ---- the measure
 
-abbrev pub shape_of : Shape → Option (ℕ × ℕ)
-shape_of Broken = none
-shape_of (Whole bulks messages) = some (bulks, messages)
+abbrev pub shape_of : RustOption Contents → Option (ℕ × ℕ)
+shape_of None = none
+shape_of (Some contents) = some (contents.bulks, contents.messages)

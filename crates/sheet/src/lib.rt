@@ -4,11 +4,11 @@
 
 mod layout;
 
-ghost use Rattle.std.specs.Prelude.{◌≡◌, false, ◌+◌, ◌*◌, ◌≤◌, length};
-ghost use Rattle.sheet.specs.Sheet.{count_width, header_width, message_width, bulk_identifier_of, sender_of, identifier_of, receiver_of, reason_of, name_of, headers_of, shape, kinds_known, mixed};
+ghost use Rattle.std.specs.Prelude.{◌≡◌, false, ◌+◌, ◌*◌, ◌<◌, ◌≤◌, length};
+ghost use Rattle.sheet.specs.Sheet.{count_width, header_width, header_at, kind_of, message_width, bulk_identifier_of, sender_of, identifier_of, receiver_of, reason_of, name_of, headers_of, shape, kinds_known, mixed};
 ghost use Rattle.sheet.specs.Reading.{header_in, message_in, CountRead, HeaderRead, MessageRead, WalkStarted, Inside, BulkTaken, shape_of};
 
-// The kinds of a bulk: pacs.008 and pacs.004.
+// The kinds of a bulk: pacs.008 and pacs.004. Numbers and no enum: a header may state any byte, and `kinds_known` is what tells.
 pub const PAYMENT: u8 = 1;
 
 pub const RETURN: u8 = 3;
@@ -68,11 +68,11 @@ pub struct BulkRead {
     pub next: Walk,
 }
 
-// The bulks and the messages of a whole sheet.
-#[derive(Clone, Copy)]
-pub enum Shape {
-    Broken,
-    Whole(usize, usize),
+// What a whole sheet holds.
+#[derive(Debug, Clone, Copy, PartialEq, Eq)]
+pub struct Contents {
+    pub bulks: usize,
+    pub messages: usize,
 }
 
 impl Cursor {
@@ -125,7 +125,7 @@ impl Cursor {
     }
 }
 
-// The texts of a header.
+// The texts of a header, which holds no sheet, as `header_in` takes the two apart; so each is lent the sheet, and says that it is in there.
 impl Header {
     pub fn identifier(self, s: &[u8]) -> &[u8]
         requires { self.at + header_width ≤ length s.now }
@@ -148,7 +148,7 @@ impl Header {
     }
 }
 
-// The texts of a message.
+// The texts of a message, likewise (`message_in`). Each has a function of its own name, so that nobody above knows a place or a width.
 impl Message {
     pub fn identifier(self, s: &[u8]) -> &[u8]
         requires { self.at + message_width self.kind ≤ length s.now }
@@ -225,31 +225,35 @@ impl Walk {
     }
 }
 
-// Whether the sheet is whole, and if so how many bulks and messages it holds. Any bytes may be asked about: what runs past the end
-// reads as what is left, and the place then stands past the end too.
-pub fn measure(s: &[u8]) -> Shape
+// The kind that header k states.
+fn kind_at(s: &[u8], k: usize) -> u8
+    requires { count_width + header_width * k < length s.now }
+    ensures { result ≡ kind_of (header_at s.now (count_width + header_width * k)) }
+{
+    s[wire::COUNT_WIDTH + layout::HEADER_WIDTH * k]
+}
+
+// What the sheet holds, if it is whole. Any bytes may be asked about: what runs past the end reads as what is left, and the place then
+// stands past the end too.
+pub fn measure(s: &[u8]) -> Option<Contents>
     ensures { shape_of result ≡ shape s.now }
 {
     let count = wire::u32_at(s, 0);
     let bulks = count as usize;
-    let mut head = wire::COUNT_WIDTH;
     let mut at = layout::first_section(count);
     let mut messages = 0;
-    let mut k = 0;
-    while k < bulks {
+    for k in 0..bulks {
         if s.len() < at {
-            return Shape::Broken;
+            return None;
         }
         let n = wire::u32_at(s, at);
-        at = layout::after_messages(at, s[head], n);
+        at = layout::after_messages(at, kind_at(s, k), n);
         messages += n as usize;
-        head += layout::HEADER_WIDTH;
-        k += 1;
     }
     if at == s.len() {
-        Shape::Whole(bulks, messages)
+        Some(Contents { bulks, messages })
     } else {
-        Shape::Broken
+        None
     }
 }
 
@@ -258,15 +262,11 @@ pub fn kinds_known(s: &[u8], n: usize) -> bool
     requires { count_width + header_width * n ≤ length s.now }
     ensures { result ≡ kinds_known (headers_of s.now n) }
 {
-    let mut at = wire::COUNT_WIDTH;
-    let mut k = 0;
-    while k < n {
-        let kind = s[at];
+    for k in 0..n {
+        let kind = kind_at(s, k);
         if !((kind == PAYMENT) | (kind == RETURN)) {
             return false;
         }
-        at += layout::HEADER_WIDTH;
-        k += 1;
     }
     true
 }
@@ -277,16 +277,12 @@ pub fn kinds_mixed(s: &[u8], n: usize) -> bool
     ensures { result ≡ mixed false (headers_of s.now n) }
 {
     let mut seen = false;
-    let mut at = wire::COUNT_WIDTH;
-    let mut k = 0;
-    while k < n {
-        let kind = s[at];
+    for k in 0..n {
+        let kind = kind_at(s, k);
         if seen & (kind == PAYMENT) {
             return true;
         }
         seen = seen | (kind == RETURN);
-        at += layout::HEADER_WIDTH;
-        k += 1;
     }
     false
 }

@@ -4,7 +4,6 @@ use mathlib.Core.Path.{◌≡◌, refl, sym, ap, ◌∙◌}
 use mathlib.Core.Bool.{Bool, true, false, cond, ◌&&◌}
 use mathlib.Core.List.{List}
 use Prim.Native.Nat.{ℕ, zero, suc, ◌+◌, ◌-◌, ◌≤◌, ◌<◌}
-use native.Mathlib.Nat.{zero-add, sub-zero}
 use native.Mathlib.Numerals.{add-one}
 use native.Mathlib.Omega.{arith}
 use lib.Dec.{eqb}
@@ -92,9 +91,6 @@ module _ (layout : Layout) (records index : List ℕ) (m : ℕ) where
     pub few : count ≤ k
     pub well : every_from fits (m - k) k ≡ every_from fits m 0
     pub counted : count + count_from new (m - k) k ≡ count_from new m 0
-
-  pub checking_first : Checking 0 0
-  checking_first = record { within = omega arith; few = omega arith; well = rw (sub-zero m); counted = rw (sub-zero m) (zero-add (count_from new m 0)) }
 
   module _ (count k : ℕ) (c : Checking count k) (looked : List ℕ) (ended : Ended) (key : looked ≡ key_in layout records k)
       (told : end_of ended ≡ searched_in layout records k looked index) (h : k < m) where

@@ -2,17 +2,16 @@
 -- Assumes nothing.
 use mathlib.Core.Path.{◌≡◌, refl, sym, ap, ◌∙◌}
 use mathlib.Core.Bool.{Bool, true, false, cond}
-use mathlib.Core.List.{List, ◌∷◌, ◌++◌, append-nil}
-use Prim.Native.Nat.{ℕ, zero, suc, ◌+◌, ◌-◌, ◌≤◌, ◌<◌}
-use native.Mathlib.Nat.{add-zero, sub-zero}
+use mathlib.Core.List.{List}
+use Prim.Native.Nat.{ℕ, suc, ◌+◌, ◌-◌, ◌≤◌, ◌<◌}
+use native.Mathlib.Nat.{add-zero}
 use native.Mathlib.Numerals.{add-one}
 use native.Mathlib.Omega.{arith}
 use lib.Dec.{eqb}
-use lib.ListN.{length, drop, get_or, set, replicate, length-replicate, drop_of_length-le}
-use lib.Seq.{drop-cons, set_at}
+use lib.ListN.{length}
 use borrow.Author.Tests.{eq-eqb, ne_eqb}
 use Rattle.slots.specs.Slots.{End, names, passed}
-use Rattle.slots.specs.Stored.{slot_count, slot_at, slots_from, slots_of, put, key_in, searched_in, added, built_in}
+use Rattle.slots.specs.Stored.{slot_at, slots_from, put, key_in, searched_in, added, built_in}
 use Rattle.slots.specs.Asked.{taken}
 use Rattle.slots.specs.declared.Layout.{Layout}
 use Rattle.slots.proofs.Stored.{put_length}
@@ -43,12 +42,6 @@ module _ (stops : ℕ → Bool) (index : List ℕ) (to : ℕ) where
 -- ---- adding
 
 module _ (e : End) (k : ℕ) (index : List ℕ) where
-  pub added_new : names k e.name ≡ false → put index e.place (k + 1) ≡ added e k index
-  added_new new = rw new
-
-  pub added_not : names k e.name ≡ true → index ≡ added e k index
-  added_not found = rw found
-
   pub added_length : length (added e k index) ≡ length index
   added_length = either (names k e.name)
     where
@@ -56,36 +49,9 @@ module _ (e : End) (k : ℕ) (index : List ℕ) where
       either true = refl
       either false = put_length index e.place (k + 1)
 
--- ---- clearing
-
-zero_more : (i : ℕ) (xs : List ℕ) → replicate i 0 ++ (0 ∷ xs) ≡ replicate (suc i) 0 ++ xs
-zero_more zero xs = refl
-zero_more (suc i) xs = ap (λ (l : List ℕ). 0 ∷ l) (zero_more i xs)
-
-module _ (d index : List ℕ) (i : ℕ) (e : index ≡ replicate i 0 ++ drop i d) where
-  pub clear_more : i < length d → set index i 0 ≡ replicate (i + 1) 0 ++ drop (i + 1) d
-  clear_more h =
-      rw (e, drop-cons d i 0 h, set_at (replicate i 0) (get_or d i 0) (drop (suc i) d) 0 i (length-replicate i 0), add-one i)
-      (zero_more i (drop (suc i) d))
-
-  pub clear_ends : i ≡ length d → index ≡ replicate (length d) 0
-  clear_ends h =
-      let past : length d ≤ i = omega arith in
-      e ∙ (rw (drop_of_length-le d past, h) (append-nil (replicate (length d) 0)))
-
 -- ---- building
 
 module _ (layout : Layout) (records : List ℕ) (bytes : ℕ) where
-  pub build_starts : (index : List ℕ) → index ≡ replicate bytes 0 → index ≡ built_in layout records (length index) 0
-  unfolding built_in
-  build_starts index e = let long : length index ≡ bytes = ap length e ∙ length-replicate bytes 0 in rw long e
-
-  pub build_ends : (first index : List ℕ) (k m : ℕ) → first ≡ replicate bytes 0 → index ≡ built_in layout records (length first) k → k ≡ m
-      → index ≡ built_in layout records bytes m
-  build_ends first index k m ef ei ek =
-      let long : length first ≡ bytes = ap length ef ∙ length-replicate bytes 0 in
-      ei ∙ (rw (long, ek))
-
   build_one : (k : ℕ)
       → added (searched_in layout records k (key_in layout records k) (built_in layout records bytes k)) k (built_in layout records bytes k)
       ≡ built_in layout records bytes (k + 1)
@@ -102,9 +68,6 @@ module _ (index : List ℕ) (n : ℕ) where
   -- the slots taken from a place on
   abbrev pub taken_from : ℕ → ℕ
   taken_from i = taken (slots_from index (n - i) i)
-
-  pub taken_starts : n ≡ slot_count index → taken_from 0 ≡ taken (slots_of index)
-  taken_starts e = rw (sub-zero n, e)
 
   module _ (i : ℕ) where
     take_one : i < n → taken_from i ≡ cond (eqb (slot_at index i) 0) (taken_from (i + 1)) (suc (taken_from (i + 1)))

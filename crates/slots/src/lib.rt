@@ -2,7 +2,7 @@
 // keys stand, and nothing of what they mean.
 #![tactic(auto)]
 
-ghost use Rattle.std.specs.Prelude.{◌≡◌, ◌+◌, ◌-◌, ◌*◌, ◌≤◌, ◌<◌, length, replicate};
+ghost use Rattle.std.specs.Prelude.{◌≡◌, ◌+◌, ◌-◌, ◌*◌, ◌≤◌, ◌<◌, length};
 ghost use Rattle.wire.specs.Field.{same};
 ghost use Rattle.slots.specs.Slots.{start_at, names, stops_at};
 ghost use Rattle.slots.specs.Stored.{digits, slot_width, most_slots, slot_count, slot_at, slots_of, key_in, searched_in, added, built_in};
@@ -34,12 +34,6 @@ pub struct Ended {
     pub place: u32,
     pub name: u32,
     pub read: u32,
-}
-
-fn wide(x: u8) -> u64
-    ensures { (result ≡ x) × (result < 256) }
-{
-    x as u64
 }
 
 fn slot_count(index: &[u8]) -> u32
@@ -74,18 +68,17 @@ fn start_from(key: &[u8], n: u32, from: usize, front: u32) -> u32
     if n == 0 {
         return 0;
     }
-    let m = n as u64;
-    let mut v = front as u64;
-    let mut i = from;
-    while 4 <= key.len() - i {
-        let high = wide(key[i]) * BASE + wide(key[i + 1]);
-        let low = wide(key[i + 2]) * BASE + wide(key[i + 3]);
+    let m = u64::from(n);
+    let mut v = u64::from(front);
+    let mut rest = &key[from..];
+    while let Some(([a, b, c, d], tail)) = rest.split_first_chunk::<4>() {
+        let high = u64::from(*a) * BASE + u64::from(*b);
+        let low = u64::from(*c) * BASE + u64::from(*d);
         v = (v * FOURTH + high * SQUARE + low) % m;
-        i += 4;
+        rest = tail;
     }
-    while i < key.len() {
-        v = (v * BASE + wide(key[i])) % m;
-        i += 1;
+    for x in rest {
+        v = (v * BASE + u64::from(*x)) % m;
     }
     v as u32
 }
@@ -144,6 +137,7 @@ fn stops_at(layout: Layout, records: &[u8], bound: u32, looked: &[u8], name: u32
 }
 
 // Looks for a key among the first `bound` records, from the slot where its search starts up to the last slot, then from the first.
+// Layout, records and bound stay three parameters: a struct of them would be made anew for each search, since the bound moves.
 fn search_from(
     layout: Layout,
     records: &[u8],
@@ -156,8 +150,7 @@ fn search_from(
     ensures { end_of result ≡ searched_in layout records.now bound looked.now index.now }
 {
     let n = slot_count(index);
-    let mut at = from;
-    while at < n {
+    for at in from..n {
         let name = slot_at(index, at);
         if stops_at(layout, records, bound, looked, name) {
             return Ended {
@@ -166,10 +159,8 @@ fn search_from(
                 read: at - from + 1,
             };
         }
-        at += 1;
     }
-    let mut round = 0;
-    while round < from {
+    for round in 0..from {
         let name = slot_at(index, round);
         if stops_at(layout, records, bound, looked, name) {
             return Ended {
@@ -178,7 +169,6 @@ fn search_from(
                 read: n - from + round + 1,
             };
         }
-        round += 1;
     }
     Ended {
         place: n,
@@ -210,27 +200,15 @@ pub fn add(index: &mut [u8], ended: Ended, k: u32)
     }
 }
 
-fn clear(index: &mut [u8])
-    ensures { index.new ≡ replicate (length index.old) 0 }
-{
-    let mut i = 0;
-    while i < index.len() {
-        index[i] = 0;
-        i += 1;
-    }
-}
-
 // Writes the index of the first m records.
 pub fn build(layout: Layout, records: &[u8], m: u32, index: &mut [u8])
     requires { Within layout records.now m }
     ensures { index.new ≡ built_in layout records.now (length index.old) m }
 {
-    clear(index);
-    let mut k = 0;
-    while k < m {
+    index.fill(0);
+    for k in 0..m {
         let ended = search(layout, records, k, key_in(layout, records, k), index);
         add(index, ended, k);
-        k += 1;
     }
 }
 
@@ -240,12 +218,10 @@ fn taken(index: &[u8]) -> u32
 {
     let n = slot_count(index);
     let mut t = 0;
-    let mut i = 0;
-    while i < n {
+    for i in 0..n {
         if slot_at(index, i) != 0 {
             t += 1;
         }
-        i += 1;
     }
     t
 }
@@ -264,8 +240,7 @@ pub fn is_built(layout: Layout, records: &[u8], m: u32, index: &[u8]) -> bool
     let n = slot_count(index);
     let mut front = 0;
     let mut count = 0;
-    let mut k = 0;
-    while k < m {
+    for k in 0..m {
         front = front_at(layout, records, n, k, front);
         let key = key_in(layout, records, k);
         let from = start_from(key, n, front_width(layout), front);
@@ -277,7 +252,6 @@ pub fn is_built(layout: Layout, records: &[u8], m: u32, index: &[u8]) -> bool
         if name == k + 1 {
             count += 1;
         }
-        k += 1;
     }
     all == count
 }

@@ -6,10 +6,9 @@ use Prim.Native.Nat.{ℕ, zero, suc, ◌+◌, ◌≤◌, ◌<◌}
 use native.Mathlib.Omega.{arith}
 use lib.Dec.{eqb}
 use lib.ListN.{length}
-use borrow.Author.Tests.{eq-eqb, ne_eqb}
-use Rattle.letters.specs.Places.{byte_at, on_turn, going, walk_by, walk}
-use Rattle.letters.specs.declared.Reach.{Reach}
-use Rattle.letters.specs.declared.Reach.TheVariants.{To, Broken}
+use borrow.Author.Tests.{eq-eqb}
+use Rattle.letters.specs.Places.{byte_at, on_turn, going, walk_by, walk, Reach}
+use Rattle.std.specs.Prelude.{Ok, Err}
 use Rattle.letters.specs.declared.Turn.{Turn}
 use Rattle.letters.specs.declared.Turn.TheVariants.{On, Ends, Breaks}
 use Rattle.letters.proofs.Scans.{byte_there}
@@ -32,25 +31,17 @@ quote_some (suc b) e = omega arith
 -- ---- an attribute
 
 module _ (s : List ℕ) (at e : ℕ) (equals : e ≡ equals_at s at) where
-  pub attribute_unequal : (byte_at s e ≡ 61 → ⊥) → Broken e ≡ attribute_at s at
-  unfolding attribute_at
-  attribute_unequal other = rw (← equals, ne_eqb (byte_at s e) 61 other)
-
   module _ (is : byte_at s e ≡ 61) (q : ℕ) (quote : q ≡ space_end s (e + 1)) where
-    pub attribute_unquoted : is_quote (byte_at s q) ≡ false → Broken q ≡ attribute_at s at
-    unfolding attribute_at
-    attribute_unquoted none = rw (← equals, ← quote, eq-eqb (byte_at s e) 61 is, none)
-
     pub attribute_value : is_quote (byte_at s q) ≡ true → value_at (byte_at s q) s (q + 1) ≡ attribute_at s at
     unfolding attribute_at
     attribute_value some = rw (← equals, ← quote, eq-eqb (byte_at s e) 61 is, some)
 
-pub attribute_forward : (s : List ℕ) (at n : ℕ) → attribute_at s at ≡ To n → (at < n) × (at < length s)
+pub attribute_forward : (s : List ℕ) (at n : ℕ) → attribute_at s at ≡ Ok n → (at < n) × (at < length s)
 unfolding attribute_at
 attribute_forward s at n e = by_test (eqb (byte_at s (equals_at s at)) 61) (is_quote (byte_at s (quote_at s at))) refl e
   where
     by_test : (a b : Bool) → is_quote (byte_at s (quote_at s at)) ≡ b
-        → cond a (cond b (value_at (byte_at s (quote_at s at)) s (quote_at s at + 1)) (Broken (quote_at s at))) (Broken (equals_at s at)) ≡ To n
+        → cond a (cond b (value_at (byte_at s (quote_at s at)) s (quote_at s at + 1)) (Err (quote_at s at))) (Err (equals_at s at)) ≡ Ok n
         → (at < n) × (at < length s)
     by_test false b q told = absurd (let z : ◌≡◌ {A = ℕ} 0 1 = cc in omega arith)
     by_test true false q told = absurd (let z : ◌≡◌ {A = ℕ} 0 1 = cc in omega arith)
@@ -72,10 +63,6 @@ module _ (s : List ℕ) (from at : ℕ) where
     turn_ends e = rw (spaced, ← after, e)
 
     module _ (begins : name_start (byte_at s k) ≡ true) where
-      pub turn_twice : named s from k ≡ true → Breaks k ≡ attribute_turn s from at
-      unfolding attribute_turn
-      turn_twice e = rw (spaced, ← after, begins, e)
-
       pub turn_on : named s from k ≡ false → (r : Reach) → attribute_at s k ≡ r → going r ≡ attribute_turn s from at
       unfolding attribute_turn
       turn_on e r told = rw (spaced, ← after, begins, e, told)
@@ -93,8 +80,8 @@ module _ (s : List ℕ) (from : ℕ) where
       by_test false p b c r q told = absurd (let z : ◌≡◌ {A = ℕ} 0 1 = cc in omega arith)
       by_test true p false c r q told = absurd (let z : ◌≡◌ {A = ℕ} 0 1 = cc in omega arith)
       by_test true p true true r q told = absurd (let z : ◌≡◌ {A = ℕ} 0 1 = cc in omega arith)
-      by_test true p true false (Broken k) q told = absurd (let z : ◌≡◌ {A = ℕ} 0 1 = cc in omega arith)
-      by_test true p true false (To m) q told =
+      by_test true p true false (Err k) q told = absurd (let z : ◌≡◌ {A = ℕ} 0 1 = cc in omega arith)
+      by_test true p true false (Ok m) q told =
           let same : m ≡ n = cc in
           let there = byte_there s at (space_some (byte_at s at) p) in
           let on = attribute_forward s (space_end s at) m q in
@@ -110,8 +97,8 @@ module _ (s : List ℕ) (from : ℕ) where
       by_test false b c r told = let same : at ≡ n = cc in omega arith
       by_test true false c r told = let same : space_end s at ≡ n = cc in omega arith
       by_test true true true r told = absurd (let z : ◌≡◌ {A = ℕ} 0 1 = cc in omega arith)
-      by_test true true false (Broken k) told = absurd (let z : ◌≡◌ {A = ℕ} 0 1 = cc in omega arith)
-      by_test true true false (To m) told = absurd (let z : ◌≡◌ {A = ℕ} 0 1 = cc in omega arith)
+      by_test true true false (Err k) told = absurd (let z : ◌≡◌ {A = ℕ} 0 1 = cc in omega arith)
+      by_test true true false (Ok m) told = absurd (let z : ◌≡◌ {A = ℕ} 0 1 = cc in omega arith)
 
   attributes_onward : Onward (attribute_turn s from) (length s)
   attributes_onward =
@@ -125,11 +112,11 @@ module _ (s : List ℕ) (from : ℕ) where
       → walk (attribute_turn s from) s at ≡ on_turn r (λ next. walk (attribute_turn s from) s next)
   attributes_turn at r e = walk_turn (attribute_turn s from) s attributes_onward at r e
 
-  pub attributes_forward : (n : ℕ) → attributes_at s from ≡ To n → from ≤ n
+  pub attributes_forward : (n : ℕ) → attributes_at s from ≡ Ok n → from ≤ n
   unfolding attributes_at
   attributes_forward n e = walk_forward (attribute_turn s from) s attributes_onward from n e
 
   -- there are none, unless a space begins them
-  pub attributes_none : is_space (byte_at s from) ≡ false → attributes_at s from ≡ To from
+  pub attributes_none : is_space (byte_at s from) ≡ false → attributes_at s from ≡ Ok from
   unfolding attributes_at walk walk_by attribute_turn
   attributes_none e = rw e

@@ -3,12 +3,11 @@
 use mathlib.Core.Path.{◌≡◌, refl, sym, ap, ◌∙◌}
 use mathlib.Core.Bool.{Bool, true, false, cond, ◌||◌}
 use mathlib.Core.List.{List}
-use Prim.Native.Nat.{ℕ, zero, suc, ◌+◌, ◌≤◌, ◌<◌, min}
+use Prim.Native.Nat.{ℕ, zero, suc, ◌≤◌, min}
 use native.Mathlib.Omega.{arith}
 use lib.ListN.{length}
-use Rattle.letters.specs.Places.{byte_at, on_turn, going, walk_by, walk}
-use Rattle.letters.specs.declared.Reach.{Reach}
-use Rattle.letters.specs.declared.Reach.TheVariants.{To, Broken}
+use Rattle.letters.specs.Places.{byte_at, on_turn, going, walk_by, walk, Reach}
+use Rattle.std.specs.Prelude.{Ok, Err}
 use Rattle.letters.specs.declared.Turn.{Turn}
 use Rattle.letters.specs.declared.Turn.TheVariants.{On, Ends, Breaks}
 use Rattle.tags.specs.Names.{is_space, name_start, space_end}
@@ -22,26 +21,26 @@ use Rattle.tags.proofs.Late.{attribute_late, by_late}
 least_itself : (p : ℕ) → min p p ≡ p
 least_itself p = omega arith
 
-pub sooner_itself : (p : ℕ) → Broken p ≡ sooner (Broken p) (Broken p)
+pub sooner_itself : (p : ℕ) → Err p ≡ sooner (Err p) (Err p)
 unfolding sooner
-sooner_itself p = ap (λ (q : ℕ). Broken q) (sym (least_itself p))
+sooner_itself p = ap (λ (q : ℕ). Err q) (sym (least_itself p))
 
-pub sooner_left : (k : ℕ) (r : Reach) → ((p : ℕ) → r ≡ Broken p → k ≤ p) → Broken k ≡ sooner (Broken k) r
+pub sooner_left : (k : ℕ) (r : Reach) → ((p : ℕ) → r ≡ Err p → k ≤ p) → Err k ≡ sooner (Err k) r
 unfolding sooner
-sooner_left k (To e) late = refl
-sooner_left k (Broken p) late = let after : k ≤ p = late p refl in let least : k ≡ min k p = omega arith in ap (λ (q : ℕ). Broken q) least
+sooner_left k (Ok e) late = refl
+sooner_left k (Err p) late = let after : k ≤ p = late p refl in let least : k ≡ min k p = omega arith in ap (λ (q : ℕ). Err q) least
 
-pub sooner_right : (k : ℕ) (r : Reach) → ((p : ℕ) → r ≡ Broken p → k ≤ p) → Broken k ≡ sooner r (Broken k)
+pub sooner_right : (k : ℕ) (r : Reach) → ((p : ℕ) → r ≡ Err p → k ≤ p) → Err k ≡ sooner r (Err k)
 unfolding sooner
-sooner_right k (To e) late = refl
-sooner_right k (Broken p) late = let after : k ≤ p = late p refl in let least : k ≡ min p k = omega arith in ap (λ (q : ℕ). Broken q) least
+sooner_right k (Ok e) late = refl
+sooner_right k (Err p) late = let after : k ≤ p = late p refl in let least : k ≡ min p k = omega arith in ap (λ (q : ℕ). Err q) least
 
 pub sooner_joined : (a b c : Reach) → sooner a (sooner b c) ≡ sooner (sooner a b) c
 unfolding sooner
-sooner_joined (To e) b c = refl
-sooner_joined (Broken p) (To e) c = refl
-sooner_joined (Broken p) (Broken q) (To e) = refl
-sooner_joined (Broken p) (Broken q) (Broken t) = let least : min p (min q t) ≡ min (min p q) t = omega arith in ap (λ (k : ℕ). Broken k) least
+sooner_joined (Ok e) b c = refl
+sooner_joined (Err p) (Ok e) c = refl
+sooner_joined (Err p) (Err q) (Ok e) = refl
+sooner_joined (Err p) (Err q) (Err t) = let least : min p (min q t) ≡ min (min p q) t = omega arith in ap (λ (k : ℕ). Err k) least
 
 -- ---- walks of equal turns are equal
 
@@ -76,9 +75,9 @@ module _ (f g h : ℕ → Bool) (s : List ℕ) (from : ℕ) (either : (k : ℕ) 
           ∙ by_test (is_space (byte_at s at)) (name_start (byte_at s (space_end s at))) (g (space_end s at)) (h (space_end s at)) (attribute_at s (space_end s at)) refl
         where
           after : (t : ℕ → Bool) (r : Reach) → attribute_at s (space_end s at) ≡ r → (p : ℕ)
-              → on_turn (going r) (λ next. walk_by (turn_by t s) n next) ≡ Broken p → space_end s at ≤ p
-          after t (To m) q p told = let on = attribute_forward s (space_end s at) m q in omega (arith, by_late t s n m p told)
-          after t (Broken k) q p told = let same : k ≡ p = cc in omega (arith, attribute_late s (space_end s at) k q)
+              → on_turn (going r) (λ next. walk_by (turn_by t s) n next) ≡ Err p → space_end s at ≤ p
+          after t (Ok m) q p told = let on = attribute_forward s (space_end s at) m q in omega (arith, by_late t s n m p told)
+          after t (Err k) q p told = let same : k ≡ p = cc in omega (arith, attribute_late s (space_end s at) k q)
 
           by_test : (a b c d : Bool) (r : Reach) → attribute_at s (space_end s at) ≡ r
               → on_turn (cond a (cond b (cond (c || d) (Breaks (space_end s at)) (going r)) (Ends (space_end s at))) (Ends at)) (λ next. walk_by (turn_by f s) n next)
@@ -90,8 +89,8 @@ module _ (f g h : ℕ → Bool) (s : List ℕ) (from : ℕ) (either : (k : ℕ) 
           by_test true true true true r q = sooner_itself (space_end s at)
           by_test true true true false r q = sooner_left (space_end s at) (on_turn (going r) (λ next. walk_by (turn_by h s) n next)) (after h r q)
           by_test true true false true r q = sooner_right (space_end s at) (on_turn (going r) (λ next. walk_by (turn_by g s) n next)) (after g r q)
-          by_test true true false false (To m) q = let on = attribute_forward s (space_end s at) m q in rest m (omega arith)
-          by_test true true false false (Broken p) q = sooner_itself p
+          by_test true true false false (Ok m) q = let on = attribute_forward s (space_end s at) m q in rest m (omega arith)
+          by_test true true false false (Err p) q = sooner_itself p
 
   pub walk_split : (at : ℕ) → from ≤ at → walk (turn_by f s) s at ≡ sooner (walk (turn_by g s) s at) (walk (turn_by h s) s at)
   unfolding walk

@@ -6,36 +6,24 @@ use Prim.Native.Nat.{ℕ, zero, suc, ◌+◌, ◌-◌, ◌≤◌, ◌<◌, min}
 use native.Mathlib.Omega.{arith}
 use lib.Dec.{eqb, ltb}
 use lib.ListN.{length, drop, length-drop}
-use borrow.Author.Tests.{eq-eqb, ne_eqb, eqb-true, lt-ltb, le-ltb, ltb-true, ltb-false}
+use borrow.Author.Tests.{eq-eqb, eqb-true, lt-ltb, ltb-true, ltb-false}
 use Rattle.wire.specs.Field.{text}
-use Rattle.letters.specs.Places.{byte_at, between, matches, expected, on_reach}
-use Rattle.letters.specs.declared.Reach.{Reach}
-use Rattle.letters.specs.declared.Reach.TheVariants.{To, Broken}
+use Rattle.letters.specs.Places.{byte_at, between, matches, expected, on_reach, Reach}
+use Rattle.std.specs.Prelude.{Ok, Err, Result}
 use Rattle.letters.proofs.Scans.{byte_there, run_stops, run_ends, word_other, word_first}
 use Rattle.letters.proofs.Walks.{went, match_forward}
 use Rattle.tags.specs.Names.{is_space, name_start, name_byte, name_end, space_end, name_at}
 use Rattle.tags.specs.Attributes.{attributes_at}
 use Rattle.tags.specs.Tags.{closed_at, closing, start_at, end_at}
 use Rattle.tags.specs.declared.Tag.{Tag}
-use Rattle.tags.specs.declared.Tag.TheVariants.{Open, Empty, Faulty}
+use Rattle.tags.specs.declared.Tag.TheVariants.{Open, Empty}
 use Rattle.tags.proofs.AttributeWalk.{attributes_forward, attributes_none}
 
 -- ---- what ends a start tag
 
 module _ (s : List ℕ) (at : ℕ) where
-  pub closed_open : byte_at s at ≡ 62 → Open at (at + 1) ≡ closed_at s at
+  pub closed_open : byte_at s at ≡ 62 → Ok (Open at (at + 1)) ≡ closed_at s at
   closed_open e = rw (eq-eqb (byte_at s at) 62 e)
-
-  module _ (more : byte_at s at ≡ 62 → ⊥) where
-    pub closed_odd : (byte_at s at ≡ 47 → ⊥) → Faulty at ≡ closed_at s at
-    closed_odd other = rw (ne_eqb (byte_at s at) 62 more, ne_eqb (byte_at s at) 47 other)
-
-    module _ (slash : byte_at s at ≡ 47) where
-      pub closed_empty : byte_at s (at + 1) ≡ 62 → Empty at (at + 2) ≡ closed_at s at
-      closed_empty e = rw (ne_eqb (byte_at s at) 62 more, eq-eqb (byte_at s at) 47 slash, eq-eqb (byte_at s (at + 1)) 62 e)
-
-      pub closed_short : (byte_at s (at + 1) ≡ 62 → ⊥) → Faulty (at + 1) ≡ closed_at s at
-      closed_short e = rw (ne_eqb (byte_at s at) 62 more, eq-eqb (byte_at s at) 47 slash, ne_eqb (byte_at s (at + 1)) 62 e)
 
 -- ---- each way through a start tag
 
@@ -49,14 +37,6 @@ unfolding is_space
 none_plain b e = rw e
 
 module _ (s : List ℕ) (at : ℕ) where
-  pub start_past : length s ≤ at → Faulty at ≡ start_at s at
-  unfolding start_at
-  start_past h = rw (le-ltb at (length s) h)
-
-  pub start_nameless : at < length s → name_start (byte_at s (at + 1)) ≡ false → Faulty (at + 1) ≡ start_at s at
-  unfolding start_at
-  start_nameless h e = rw (lt-ltb at (length s) h, e)
-
   -- where its name ends at place to
   module _ (begins : name_start (byte_at s (at + 1)) ≡ true) (to : ℕ) (ends : to ≡ name_end s (at + 1)) where
     pub start_named : (r : Reach) → attributes_at s to ≡ r → closing s r ≡ start_at s at
@@ -65,21 +45,21 @@ module _ (s : List ℕ) (at : ℕ) where
         let there = byte_there s (at + 1) (start_some (byte_at s (at + 1)) begins) in
         rw (lt-ltb at (length s) (omega arith), begins, ← ends, e)
 
-    pub start_plain : byte_at s to ≡ 62 → Open to (to + 1) ≡ start_at s at
-    start_plain e = closed_open s to e ∙ start_named (To to) (attributes_none s to (none_plain _ e))
+    pub start_plain : byte_at s to ≡ 62 → Ok (Open to (to + 1)) ≡ start_at s at
+    start_plain e = closed_open s to e ∙ start_named (Ok to) (attributes_none s to (none_plain _ e))
 
 -- ---- what a start tag tells
 
-abbrev Told : List ℕ → ℕ → Tag → Type 0
-Told s at (Open e n) = (at < e) × (n ≡ e + 1) × (n ≤ length s)
-Told s at (Empty e n) = (at < e) × (n ≡ e + 2) × (n ≤ length s)
-Told s at (Faulty p) = Unit {0}
+abbrev Told : List ℕ → ℕ → Result Tag ℕ → Type 0
+Told s at (Ok (Open e n)) = (at < e) × (n ≡ e + 1) × (n ≤ length s)
+Told s at (Ok (Empty e n)) = (at < e) × (n ≡ e + 2) × (n ≤ length s)
+Told s at (Err p) = Unit {0}
 
 closed_told : (s : List ℕ) (at e : ℕ) → at < e → Told s at (closed_at s e)
 closed_told s at e h = by_test (eqb (byte_at s e) 62) refl (eqb (byte_at s e) 47) (eqb (byte_at s (e + 1)) 62) refl
   where
     by_test : (a : Bool) → eqb (byte_at s e) 62 ≡ a → (b c : Bool) → eqb (byte_at s (e + 1)) 62 ≡ c
-        → Told s at (cond a (Open e (e + 1)) (cond b (cond c (Empty e (e + 2)) (Faulty (e + 1))) (Faulty e)))
+        → Told s at (cond a (Ok (Open e (e + 1))) (cond b (cond c (Ok (Empty e (e + 2))) (Err (e + 1))) (Err e)))
     by_test true p b c q =
         let there = byte_there s e (let is = eqb-true (byte_at s e) 62 p in omega arith) in
         (h, refl, omega arith)
@@ -90,44 +70,44 @@ closed_told s at e h = by_test (eqb (byte_at s e) 62) refl (eqb (byte_at s e) 47
     by_test false p false c q = tt
 
 closing_told : (s : List ℕ) (at from : ℕ) → at < from → (r : Reach) → attributes_at s from ≡ r → Told s at (closing s r)
-closing_told s at from h (To e) told = closed_told s at e (omega (arith, attributes_forward s from e told))
-closing_told s at from h (Broken p) told = tt
+closing_told s at from h (Ok e) told = closed_told s at e (omega (arith, attributes_forward s from e told))
+closing_told s at from h (Err p) told = tt
 
 start_told : (s : List ℕ) (at : ℕ) → Told s at (start_at s at)
 unfolding start_at
 start_told s at = by_test (ltb at (length s)) (name_start (byte_at s (at + 1)))
   where
-    by_test : (a b : Bool) → Told s at (cond a (cond b (closing s (attributes_at s (name_end s (at + 1)))) (Faulty (at + 1))) (Faulty at))
+    by_test : (a b : Bool) → Told s at (cond a (cond b (closing s (attributes_at s (name_end s (at + 1)))) (Err (at + 1))) (Err at))
     by_test false b = tt
     by_test true false = tt
     by_test true true = closing_told s at (name_end s (at + 1)) (omega arith) (attributes_at s (name_end s (at + 1))) refl
 
 module _ (s : List ℕ) (at e n : ℕ) where
-  pub open_forward : start_at s at ≡ Open e n → (at < e) × (n ≡ e + 1) × (n ≤ length s)
+  pub open_forward : start_at s at ≡ Ok (Open e n) → (at < e) × (n ≡ e + 1) × (n ≤ length s)
   open_forward told = rw told at (start_told s at)
 
-  pub empty_forward : start_at s at ≡ Empty e n → (at < e) × (n ≡ e + 2) × (n ≤ length s)
+  pub empty_forward : start_at s at ≡ Ok (Empty e n) → (at < e) × (n ≡ e + 2) × (n ≤ length s)
   empty_forward told = rw told at (start_told s at)
 
 -- ---- an end tag
 
 -- a word that stands is no longer than what is left
-match_fits : (word t : List ℕ) (at n : ℕ) → matches word t at ≡ To n → length word ≤ length t
+match_fits : (word t : List ℕ) (at n : ℕ) → matches word t at ≡ Ok n → length word ≤ length t
 unfolding matches
 match_fits [] t at n e = omega arith
 match_fits (b ∷ bs) [] at n e = absurd (let z : ◌≡◌ {A = ℕ} 0 1 = cc in omega arith)
 match_fits (b ∷ bs) (c ∷ cs) at n e = by_test (match_fits bs cs (at + 1) n) (eqb c b) e
   where
-    by_test : (matches bs cs (at + 1) ≡ To n → length bs ≤ length cs) → (t : Bool) → cond t (matches bs cs (at + 1)) (Broken at) ≡ To n
+    by_test : (matches bs cs (at + 1) ≡ Ok n → length bs ≤ length cs) → (t : Bool) → cond t (matches bs cs (at + 1)) (Err at) ≡ Ok n
         → suc (length bs) ≤ suc (length cs)
     by_test rest true told = omega (arith, rest told)
     by_test rest false told = absurd (let z : ◌≡◌ {A = ℕ} 0 1 = cc in omega arith)
 
-pub expected_inside : (s : List ℕ) (b : ℕ) (bs : List ℕ) (at n : ℕ) → expected s (b ∷ bs) at ≡ To n → n ≤ length s
+pub expected_inside : (s : List ℕ) (b : ℕ) (bs : List ℕ) (at n : ℕ) → expected s (b ∷ bs) at ≡ Ok n → n ≤ length s
 expected_inside s b bs at n e =
     omega (arith, match_forward (b ∷ bs) (drop at s) at n e, match_fits (b ∷ bs) (drop at s) at n e, length-drop at s)
 
-pub ended_here : (s : List ℕ) (at : ℕ) → byte_at s at ≡ 62 → To (at + 1) ≡ expected s (text ">") (space_end s at)
+pub ended_here : (s : List ℕ) (at : ℕ) → byte_at s at ≡ 62 → Ok (at + 1) ≡ expected s (text ">") (space_end s at)
 unfolding matches
 ended_here s at e =
     rw (← run_stops is_space s at (byte_there s at (omega arith)) (none_plain _ e), word_first s 62 [] at (omega arith) e)
@@ -139,12 +119,12 @@ module _ (s : List ℕ) (start at : ℕ) where
   abbrev again : ℕ → Reach
   again n = on_reach (expected s (name_at s (start + 1)) n) ended
 
-  pub end_unopened : (byte_at s at ≡ 60 → ⊥) → Broken at ≡ end_at s start at
+  pub end_unopened : (byte_at s at ≡ 60 → ⊥) → Err at ≡ end_at s start at
   unfolding end_at
   end_unopened other = rw (word_other s 60 (text "/") at other)
 
   module _ (opens : byte_at s at ≡ 60) where
-    pub end_unslashed : (byte_at s (at + 1) ≡ 47 → ⊥) → Broken (at + 1) ≡ end_at s start at
+    pub end_unslashed : (byte_at s (at + 1) ≡ 47 → ⊥) → Err (at + 1) ≡ end_at s start at
     unfolding end_at
     end_unslashed other = rw (word_first s 60 (text "/") at (omega arith) opens, word_other s 47 [] (at + 1) other)
 
@@ -156,7 +136,7 @@ module _ (s : List ℕ) (start at : ℕ) where
         let two : at + 1 + 1 ≡ at + 2 = omega arith in
         rw (word_first s 60 (text "/") at (omega arith) opens, word_first s 47 [] (at + 1) (omega arith) slash, two, ← ends, e)
 
-  pub end_forward : (n : ℕ) → end_at s start at ≡ To n → (at + 2 ≤ n) × (n ≤ length s)
+  pub end_forward : (n : ℕ) → end_at s start at ≡ Ok n → (at + 2 ≤ n) × (n ≤ length s)
   unfolding end_at
   end_forward n e =
       let a = went (expected s (text "</") at) again n e in

@@ -8,14 +8,13 @@ use native.Mathlib.Omega.{arith}
 use lib.Dec.{eqb}
 use lib.ListN.{length}
 use borrow.Author.Tests.{eq-eqb, ne_eqb, eqb-false}
-use Rattle.letters.specs.Places.{byte_at, on_turn, walk}
+use Rattle.letters.specs.Places.{byte_at, on_turn}
 use Rattle.letters.specs.Characters.{width_at}
 use Rattle.letters.specs.References.{reference_at}
-use Rattle.letters.specs.declared.Reach.TheVariants.{To}
+use Rattle.std.specs.Prelude.{Ok, Option, Some, None}
 use Rattle.letters.specs.declared.Turn.{Turn}
 use Rattle.letters.specs.declared.Turn.TheVariants.{On, Ends, Breaks}
 use Rattle.letters.specs.declared.Reference.{Reference}
-use Rattle.letters.specs.declared.Reference.TheVariants.{Stands, Nothing}
 use Rattle.letters.proofs.Walks.{Onward, walk_turn, walk_forward}
 use Rattle.letters.proofs.Characters.{width_there}
 use Rattle.letters.proofs.References.{reference_forward}
@@ -27,19 +26,19 @@ module _ (s : List ℕ) (at n : ℕ) where
   pub reference_on : after_reference (reference_at s at) at ≡ On n → (at < n) × (n ≤ length s)
   reference_on told = by_case (reference_at s at) refl told
     where
-      by_case : (r : Reference) → reference_at s at ≡ r → after_reference r at ≡ On n → (at < n) × (n ≤ length s)
-      by_case (Stands c next) e told =
-          let same : next ≡ n = cc in
-          let ahead = reference_forward s at c next e in
+      by_case : (r : Option Reference) → reference_at s at ≡ r → after_reference r at ≡ On n → (at < n) × (n ≤ length s)
+      by_case (Some r) e told =
+          let same : r.next ≡ n = cc in
+          let ahead = reference_forward s at r.character r.next e in
           (omega arith, omega arith)
-      by_case Nothing e told = absurd (let z : ◌≡◌ {A = ℕ} 0 1 = cc in omega arith)
+      by_case None e told = absurd (let z : ◌≡◌ {A = ℕ} 0 1 = cc in omega arith)
 
   pub reference_unending : after_reference (reference_at s at) at ≡ Ends n → ⊥
   reference_unending told = by_case (reference_at s at) told
     where
-      by_case : (r : Reference) → after_reference r at ≡ Ends n → ⊥
-      by_case (Stands c next) told = let z : ◌≡◌ {A = ℕ} 0 1 = cc in omega arith
-      by_case Nothing told = let z : ◌≡◌ {A = ℕ} 0 1 = cc in omega arith
+      by_case : (r : Option Reference) → after_reference r at ≡ Ends n → ⊥
+      by_case (Some r) told = let z : ◌≡◌ {A = ℕ} 0 1 = cc in omega arith
+      by_case None told = let z : ◌≡◌ {A = ℕ} 0 1 = cc in omega arith
 
   pub character_on : after_character (width_at s at) at ≡ On n → (at < n) × (n ≤ length s)
   character_on told = by_test (eqb (width_at s at) 0) refl told
@@ -62,15 +61,7 @@ module _ (s : List ℕ) (at n : ℕ) where
 -- ---- each way through a turn
 
 module _ (quote : ℕ) (s : List ℕ) (at : ℕ) where
-  pub value_quote : byte_at s at ≡ quote → Ends (at + 1) ≡ value_turn quote s at
-  unfolding value_turn
-  value_quote e = rw (eq-eqb (byte_at s at) quote e)
-
   module _ (other : byte_at s at ≡ quote → ⊥) where
-    pub value_open : byte_at s at ≡ 60 → Breaks at ≡ value_turn quote s at
-    unfolding value_turn
-    value_open e = rw (ne_eqb (byte_at s at) quote other, eq-eqb (byte_at s at) 60 e)
-
     module _ (plain : byte_at s at ≡ 60 → ⊥) where
       pub value_reference : byte_at s at ≡ 38 → after_reference (reference_at s at) at ≡ value_turn quote s at
       unfolding value_turn
@@ -119,6 +110,6 @@ module _ (quote : ℕ) (s : List ℕ) where
   unfolding value_at
   value_turn_lem at r e = walk_turn (value_turn quote s) s value_onward at r e
 
-  pub value_forward : (at n : ℕ) → value_at quote s at ≡ To n → at ≤ n
+  pub value_forward : (at n : ℕ) → value_at quote s at ≡ Ok n → at ≤ n
   unfolding value_at
   value_forward at n e = walk_forward (value_turn quote s) s value_onward at n e

@@ -1,23 +1,20 @@
 -- The attributes of a tag: each a name, '=' and a value in quotes, no name twice. Assumes nothing.
-use Rattle.std.specs.Prelude.{ℕ, zero, suc, ◌+◌, Bool, false, cond, not, ◌&&◌, ◌||◌, List, [], ◌∷◌, length, ltb, eqb}
+use Rattle.std.specs.Prelude.{ℕ, zero, suc, ◌+◌, Bool, false, cond, ◌&&◌, ◌||◌, List, [], ◌∷◌, length, ltb, eqb, Ok, Err, Option, Some, None}
 use Rattle.wire.specs.Field.{text, same}
-use Rattle.letters.specs.Places.{byte_at, going, walk}
+use Rattle.letters.specs.Places.{byte_at, on_reach, going, walk, Reach}
 use Rattle.letters.specs.Characters.{width_at}
 use Rattle.letters.specs.References.{reference_at}
-use Rattle.letters.specs.declared.Reach.{Reach}
-use Rattle.letters.specs.declared.Reach.TheVariants.{To, Broken}
 use Rattle.letters.specs.declared.Turn.{Turn}
 use Rattle.letters.specs.declared.Turn.TheVariants.{On, Ends, Breaks}
 use Rattle.letters.specs.declared.Reference.{Reference}
-use Rattle.letters.specs.declared.Reference.TheVariants.{Stands, Nothing}
 use Rattle.tags.specs.Names.{is_space, name_start, space_end, name_end, name_at}
 
 -- ---- a value
 
 -- on after a reference, or broken where it begins
-abbrev pub after_reference : Reference → ℕ → Turn
-after_reference (Stands c next) at = On next
-after_reference Nothing at = Breaks at
+abbrev pub after_reference : Option Reference → ℕ → Turn
+after_reference (Some r) at = On r.next
+after_reference None at = Breaks at
 
 -- on after a character, or broken where there is none
 abbrev pub after_character : ℕ → ℕ → Turn
@@ -50,14 +47,14 @@ quote_at s at = space_end s (equals_at s at + 1)
 unfoldable pub attribute_at : List ℕ → ℕ → Reach
 attribute_at s at =
     cond (eqb (byte_at s (equals_at s at)) 61)
-    (cond (is_quote (byte_at s (quote_at s at))) (value_at (byte_at s (quote_at s at)) s (quote_at s at + 1)) (Broken (quote_at s at)))
-    (Broken (equals_at s at))
+    (cond (is_quote (byte_at s (quote_at s at))) (value_at (byte_at s (quote_at s at)) s (quote_at s at + 1)) (Err (quote_at s at)))
+    (Err (equals_at s at))
 
 -- ---- the attributes of a tag
 
 abbrev pub further : Reach → (ℕ → Bool) → Bool
-further (To next) f = f next
-further (Broken p) f = false
+further (Ok next) f = f next
+further (Err p) f = false
 
 -- the test holds of the place of one of at most n attributes' names that stand from place at on and begin before the end
 unfoldable pub some_by : (ℕ → Bool) → List ℕ → ℕ → ℕ → ℕ → Bool
@@ -87,17 +84,21 @@ attributes_at s from = walk (attribute_turn s from) s from
 
 -- ---- a currency
 
-abbrev pub referred : Reference → ℕ → ℕ → Reach
-referred (Stands d next) c at = cond (eqb d c) (To next) (Broken at)
-referred Nothing c at = Broken at
+abbrev pub referred : Option Reference → ℕ → ℕ → Reach
+referred (Some r) c at = cond (eqb r.character c) (Ok r.next) (Err at)
+referred None c at = Err at
 
-abbrev pub referring : Reference → ℕ → (ℕ → Bool) → Bool
-referring (Stands d next) c f = cond (eqb d c) (f next) false
-referring Nothing c f = false
+abbrev pub referring : Option Reference → ℕ → (ℕ → Bool) → Bool
+referring (Some r) c f = cond (eqb r.character c) (f r.next) false
+referring None c f = false
 
 -- the place after a letter that stands here, itself or by a reference
 unfoldable pub letter_at : ℕ → List ℕ → ℕ → Reach
-letter_at c s at = cond (eqb (byte_at s at) c) (To (at + 1)) (referred (reference_at s at) c at)
+letter_at c s at = cond (eqb (byte_at s at) c) (Ok (at + 1)) (referred (reference_at s at) c at)
+
+-- the place after the letters EUR
+abbrev pub euro_end : List ℕ → ℕ → Reach
+euro_end s at = on_reach (letter_at 69 s at) (λ a. on_reach (letter_at 85 s a) (λ b. letter_at 82 s b))
 
 -- the letters stand here, each itself or by a reference, and the quote after them
 unfoldable pub spells : List ℕ → ℕ → List ℕ → ℕ → Bool

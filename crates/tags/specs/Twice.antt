@@ -1,13 +1,12 @@
 -- What the functions of src/twice.rt say to each other: what is kept of a block of attributes, and what it comes to. No public contract names
 -- these. Assumes nothing.
-use Rattle.std.specs.Prelude.{ℕ, zero, suc, ◌+◌, ◌*◌, ◌%◌, ◌≤◌, ◌<◌, min, ◌≡◌, Bool, false, cond, ◌||◌, List, [], ◌∷◌, length, get_or}
+use Rattle.std.specs.Prelude.{ℕ, zero, suc, ◌+◌, ◌*◌, ◌%◌, ◌≤◌, ◌<◌, min, ◌≡◌, Bool, false, cond, ◌||◌, List, [], ◌∷◌, length, get_or, set, Ok, Err}
 use Rattle.wire.specs.Field.{same}
-use Rattle.letters.specs.Places.{byte_at, going, walk}
-use Rattle.letters.specs.declared.Reach.{Reach}
-use Rattle.letters.specs.declared.Reach.TheVariants.{To, Broken}
+use Rattle.letters.specs.Places.{byte_at, going, walk, Reach}
 use Rattle.letters.specs.declared.Turn.{Turn}
 use Rattle.letters.specs.declared.Turn.TheVariants.{On, Ends, Breaks}
 use Rattle.tags.specs.Names.{is_space, name_start, space_end, name_at}
+use Rattle.tags.specs.declared.twice.Kept.{Kept}
 use Rattle.tags.specs.Attributes.{attribute_at, some_attribute, attribute_turn, attributes_at}
 
 -- how many attributes a block has
@@ -46,28 +45,36 @@ turn_by twice s at =
 
 -- the first place at which one of two walks over the same attributes breaks
 unfoldable pub sooner : Reach → Reach → Reach
-sooner (To e) r = r
-sooner (Broken p) (To e) = Broken p
-sooner (Broken p) (Broken q) = Broken (min p q)
+sooner (Ok e) r = r
+sooner (Err p) (Ok e) = Err p
+sooner (Err p) (Err q) = Err (min p q)
+
+-- what is kept with the attribute that follows the spaces at place at, behind the first n
+abbrev pub keeping : List ℕ → ℕ → ℕ → Kept → Kept
+keeping s n at kept = record {
+  places = set kept.places n (space_end s at);
+  marks = set kept.marks n (mark_at s (space_end s at));
+  seen = set kept.seen (mark_at s (space_end s at) % slots) 1;
+}
 
 -- beside each of the first n places stands the mark of its name, and its slot is taken
-pub record Marked (s places marks seen : List ℕ) (n : ℕ) : Type 0 where
-  pub room : n ≤ length places
-  pub beside : n ≤ length marks
-  pub marked : (j : ℕ) → j < n → get_or marks j 0 ≡ mark_at s (get_or places j 0)
-  pub sized : length seen ≡ slots
-  pub taken : (j : ℕ) → j < n → get_or seen (mark_at s (get_or places j 0) % slots) 0 ≡ 1
+pub record Marked (s : List ℕ) (kept : Kept) (n : ℕ) : Type 0 where
+  pub room : n ≤ length kept.places
+  pub beside : n ≤ length kept.marks
+  pub marked : (j : ℕ) → j < n → get_or kept.marks j 0 ≡ mark_at s (get_or kept.places j 0)
+  pub sized : length kept.seen ≡ slots
+  pub taken : (j : ℕ) → j < n → get_or kept.seen (mark_at s (get_or kept.places j 0) % slots) 0 ≡ 1
 
 -- the first n places are those of the attributes between two places, of which no two have one name
-pub record Held (s : List ℕ) (from at : ℕ) (places marks seen : List ℕ) (n : ℕ) : Type 0 where
-  pub marks_held : Marked s places marks seen n
+pub record Held (s : List ℕ) (from at : ℕ) (kept : Kept) (n : ℕ) : Type 0 where
+  pub marks_held : Marked s kept n
   pub onward : from + n ≤ at
   pub inside : 0 < n → from < length s
   pub left : walk (attribute_turn s from) s at ≡ attributes_at s from
-  pub covered : (test : ℕ → Bool) (end : ℕ) → at ≤ end → some_attribute test s from end ≡ (some_of test places n || some_attribute test s at end)
+  pub covered : (test : ℕ → Bool) (end : ℕ) → at ≤ end → some_attribute test s from end ≡ (some_of test kept.places n || some_attribute test s at end)
 
 -- a block is full, or the attributes end or break before it is
-abbrev pub Filled : List ℕ → ℕ → List ℕ → List ℕ → List ℕ → Turn → Type 0
-Filled s from places marks seen (On at) = Held s from at places marks seen block
-Filled s from places marks seen (Ends e) = attributes_at s from ≡ To e
-Filled s from places marks seen (Breaks p) = attributes_at s from ≡ Broken p
+abbrev pub Filled : List ℕ → ℕ → Kept → Turn → Type 0
+Filled s from kept (On at) = Held s from at kept block
+Filled s from kept (Ends e) = attributes_at s from ≡ Ok e
+Filled s from kept (Breaks p) = attributes_at s from ≡ Err p

@@ -1,43 +1,41 @@
 // Whether an attribute says that an amount is in euros.
 ghost use Rattle.std.specs.Prelude.{◌≡◌, ◌<◌};
 ghost use Rattle.wire.specs.Field.{text};
-ghost use Rattle.tags.specs.Attributes.{letter_at, spells, in_euros};
+ghost use Rattle.tags.specs.Attributes.{letter_at, euro_end, spells, in_euros};
 
-use letters::{Reach, Reference};
+use letters::Reach;
 
 // The place after a letter, which stands itself or by a reference.
+#[tactic(auto, unfolding(crate::specs::Attributes::letter_at))]
 fn letter(s: &[u8], c: u8, at: usize) -> Reach
     requires { 0 < c }
     ensures { result ≡ letter_at c s.now at }
 {
     if letters::byte_at(s, at) == c {
-        return Reach::To(at + 1);
+        return Ok(at + 1);
     }
     match letters::reference_at(s, at) {
-        Reference::Stands(d, next) => {
-            if d == c as usize {
-                Reach::To(next)
-            } else {
-                Reach::Broken(at)
-            }
-        }
-        Reference::Nothing => Reach::Broken(at),
+        Some(r) if r.character == c as usize => Ok(r.next),
+        _ => Err(at),
     }
 }
 
-// Whether EUR and the closing quote stand here.
+// The place after the letters EUR.
+fn euro_end(s: &[u8], at: usize) -> Reach
+    ensures { result ≡ euro_end s.now at }
+{
+    let a = letter(s, b'E', at)?;
+    let b = letter(s, b'U', a)?;
+    letter(s, b'R', b)
+}
+
+// Whether EUR and the closing quote stand here. Text, quote and place stay parameters, as `spells` takes them.
 fn spells_euros(s: &[u8], quote: u8, at: usize) -> bool
     ensures { result ≡ spells (text "EUR") quote s.now at }
 {
-    match letter(s, b'E', at) {
-        Reach::To(a) => match letter(s, b'U', a) {
-            Reach::To(b) => match letter(s, b'R', b) {
-                Reach::To(e) => letters::byte_at(s, e) == quote,
-                Reach::Broken(_) => false,
-            },
-            Reach::Broken(_) => false,
-        },
-        Reach::Broken(_) => false,
+    match euro_end(s, at) {
+        Ok(e) => letters::byte_at(s, e) == quote,
+        Err(_) => false,
     }
 }
 

@@ -9,20 +9,20 @@ use crate::Tag;
 use letters::Reach;
 
 // What ends a start tag.
-pub(crate) fn closed(s: &[u8], at: usize) -> Tag
+pub(crate) fn closed(s: &[u8], at: usize) -> Result<Tag, usize>
     ensures { result ≡ closed_at s.now at }
 {
     let b = letters::byte_at(s, at);
     if b == b'>' {
-        return Tag::Open(at, at + 1);
+        return Ok(Tag::Open(at, at + 1));
     }
     if b != b'/' {
-        return Tag::Faulty(at);
+        return Err(at);
     }
     if letters::byte_at(s, at + 1) == b'>' {
-        Tag::Empty(at, at + 2)
+        Ok(Tag::Empty(at, at + 2))
     } else {
-        Tag::Faulty(at + 1)
+        Err(at + 1)
     }
 }
 
@@ -34,18 +34,16 @@ pub(crate) fn name_again(s: &[u8], from: usize, to: usize, at: usize) -> Reach
     ensures { result ≡ expected s.now (between s.now from to) at }
 {
     let n = wire::least(to - from, s.len() - at);
-    let mut k = 0;
-    while k < n {
+    for k in 0..n {
         let b = s[from + k];
         if s[at + k] != b {
-            return Reach::Broken(at + k);
+            return Err(at + k);
         }
-        k += 1;
     }
-    if from + k < to {
-        Reach::Broken(at + k)
+    if from + n < to {
+        Err(at + n)
     } else {
-        Reach::To(at + k)
+        Ok(at + n)
     }
 }
 
@@ -54,7 +52,7 @@ pub(crate) fn end_closed(s: &[u8], at: usize) -> Reach
     ensures { result ≡ expected s.now (text ">") (space_end s.now at) }
 {
     if letters::byte_at(s, at) == b'>' {
-        return Reach::To(at + 1);
+        return Ok(at + 1);
     }
     letters::expect(s, b">", crate::space_end(s, at))
 }

@@ -13,25 +13,37 @@ ghost use Rattle.tags.specs.Names.{is_space, name_start, name_byte, space_end, n
 ghost use Rattle.tags.specs.Attributes.{after_reference, after_character, is_quote, attribute_at, attributes_at, euros};
 ghost use Rattle.tags.specs.Tags.{start_at, end_at};
 
-use letters::{Reach, Reference, Turn};
+use letters::{Bytes, Reach, Turn};
 
-// A start tag: where its attributes end, and the place after it; or where its form is broken.
+// A start tag: where its attributes end, and the place after it.
 #[derive(Clone, Copy)]
 pub enum Tag {
     Open(usize, usize),
     Empty(usize, usize),
-    Faulty(usize),
 }
 
 // ---- names and spaces
 
+#[tactic(auto, unfolding(crate::specs::Names::is_space))]
 pub fn is_space(b: u8) -> bool
     ensures { result ≡ is_space b }
 {
     (b == b' ') | (b == b'\t') | (b == b'\n') | (b == b'\r')
 }
 
+#[derive(Clone, Copy)]
+struct Space;
+
+impl Bytes for Space {
+    ghost holds = { λ self. is_space };
+
+    fn has(&self, b: u8) -> bool {
+        is_space(b)
+    }
+}
+
 // Whether a name may begin with the byte.
+#[tactic(auto, unfolding(crate::specs::Names::name_start))]
 pub fn name_starts(b: u8) -> bool
     ensures { result ≡ name_start b }
 {
@@ -51,32 +63,29 @@ fn in_name(b: u8) -> bool
         | ((b'A' <= b) & (b <= b'Z'))
 }
 
+#[derive(Clone, Copy)]
+struct InName;
+
+impl Bytes for InName {
+    ghost holds = { λ self. name_byte };
+
+    fn has(&self, b: u8) -> bool {
+        in_name(b)
+    }
+}
+
 // The place after the spaces that stand here.
 pub fn space_end(s: &[u8], at: usize) -> usize
     ensures { result ≡ space_end s.now at }
 {
-    let mut i = at;
-    while i < s.len() {
-        if !is_space(s[i]) {
-            return i;
-        }
-        i += 1;
-    }
-    i
+    letters::run_end(s, at, Space)
 }
 
 // The place after the name that stands here.
 pub fn name_end(s: &[u8], at: usize) -> usize
     ensures { result ≡ name_end s.now at }
 {
-    let mut i = at;
-    while i < s.len() {
-        if !in_name(s[i]) {
-            return i;
-        }
-        i += 1;
-    }
-    i
+    letters::run_end(s, at, InName)
 }
 
 pub fn name_at(s: &[u8], at: usize) -> &[u8]
@@ -92,8 +101,8 @@ pub fn after_reference(s: &[u8], at: usize) -> Turn
     ensures { result ≡ after_reference (reference_at s.now at) at }
 {
     match letters::reference_at(s, at) {
-        Reference::Stands(_, next) => Turn::On(next),
-        Reference::Nothing => Turn::Breaks(at),
+        Some(r) => Turn::On(r.next),
+        None => Turn::Breaks(at),
     }
 }
 
@@ -116,19 +125,20 @@ pub fn is_quote(b: u8) -> bool
 }
 
 // A name, '=' and a value in quotes.
+#[tactic(auto, unfolding(crate::specs::Attributes::attribute_at))]
 pub fn attribute(s: &[u8], at: usize) -> Reach
     ensures { result ≡ attribute_at s.now at }
 {
     let equals = space_end(s, name_end(s, at));
     if letters::byte_at(s, equals) != b'=' {
-        return Reach::Broken(equals);
+        return Err(equals);
     }
     let from = space_end(s, equals + 1);
     let quote = letters::byte_at(s, from);
     if is_quote(quote) {
         turns::value(s, quote, from + 1)
     } else {
-        Reach::Broken(from)
+        Err(from)
     }
 }
 
@@ -140,18 +150,16 @@ pub fn attributes(s: &[u8], from: usize) -> Reach
     ensures { result ≡ attributes_at s.now from }
 {
     let mut i = from;
-    let mut n = 0;
-    while n < FEW {
+    for _ in 0..FEW {
         match turns::attribute_turn(s, from, i) {
             Turn::On(next) => {
                 i = next;
-                n += 1;
             }
             Turn::Ends(e) => {
-                return Reach::To(e);
+                return Ok(e);
             }
             Turn::Breaks(p) => {
-                return Reach::Broken(p);
+                return Err(p);
             }
         }
     }
@@ -162,65 +170,47 @@ pub fn attributes(s: &[u8], from: usize) -> Reach
 pub fn in_euros(s: &[u8], from: usize, end: usize) -> bool
     ensures { result ≡ euros s.now from end }
 {
-    let mut i = from;
-    loop {
-        let k = space_end(s, i);
-        if end <= k {
-            return false;
-        }
-        if currency::is_euros(s, k) {
-            return true;
-        }
-        match attribute(s, k) {
-            Reach::To(n) => {
-                i = n;
-            }
-            Reach::Broken(_) => {
-                return false;
-            }
-        }
-    }
+    turns::some_attribute(s, from, end, |k| currency::is_euros(s, k))
 }
 
 // ---- tags
 
-// A start tag whose name ends at place to, in general.
-fn attributed(s: &[u8], at: usize, to: usize) -> Tag
+// A start tag whose name ends at place to, in general; or where its form is broken.
+#[tactic(auto, unfolding(crate::specs::Tags::start_at))]
+fn attributed(s: &[u8], at: usize, to: usize) -> Result<Tag, usize>
     requires { to ≡ name_end s.now (at + 1) }
     ensures { result ≡ start_at s.now at }
 {
     if s.len() <= at {
-        return Tag::Faulty(at);
+        return Err(at);
     }
     if !name_starts(letters::byte_at(s, at + 1)) {
-        return Tag::Faulty(at + 1);
+        return Err(at + 1);
     }
-    match attributes(s, to) {
-        Reach::To(e) => ends::closed(s, e),
-        Reach::Broken(p) => Tag::Faulty(p),
-    }
+    ends::closed(s, attributes(s, to)?)
 }
 
 // A start tag whose name ends at place to. Most have no attributes, and are done there; what others need stands apart, so that
 // this is small enough for the compiler to put it where it is called.
-pub fn start_from(s: &[u8], at: usize, to: usize) -> Tag
+pub fn start_from(s: &[u8], at: usize, to: usize) -> Result<Tag, usize>
     requires { to ≡ name_end s.now (at + 1) }
     ensures { result ≡ start_at s.now at }
 {
     if letters::byte_at(s, to) == b'>' {
         if name_starts(s[at + 1]) {
-            return Tag::Open(to, to + 1);
+            return Ok(Tag::Open(to, to + 1));
         }
     }
     attributed(s, at, to)
 }
 
 // A start tag, of which nothing is known yet.
-pub fn start(s: &[u8], at: usize) -> Tag
+#[tactic(auto, unfolding(crate::specs::Tags::start_at))]
+pub fn start(s: &[u8], at: usize) -> Result<Tag, usize>
     ensures { result ≡ start_at s.now at }
 {
     if s.len() <= at {
-        return Tag::Faulty(at);
+        return Err(at);
     }
     attributed(s, at, name_end(s, at + 1))
 }
@@ -231,15 +221,12 @@ pub fn end_from(s: &[u8], start: usize, to: usize, at: usize) -> Reach
     ensures { result ≡ end_at s.now start at }
 {
     if letters::byte_at(s, at) != b'<' {
-        return Reach::Broken(at);
+        return Err(at);
     }
     if letters::byte_at(s, at + 1) != b'/' {
-        return Reach::Broken(at + 1);
+        return Err(at + 1);
     }
-    match ends::name_again(s, start + 1, to, at + 2) {
-        Reach::To(m) => ends::end_closed(s, m),
-        Reach::Broken(p) => Reach::Broken(p),
-    }
+    ends::end_closed(s, ends::name_again(s, start + 1, to, at + 2)?)
 }
 
 // The end tag of the element whose start tag began at a place. Past the end of the text no name stands, from whichever place on.

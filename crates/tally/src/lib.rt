@@ -29,12 +29,13 @@ pub struct Tally {
 
 impl Cents {
     // With an amount more.
+    #[tactic(auto, using(crate::proofs::Laws::carry_fits))]
     pub fn plus(self, amount: u64) -> Cents
         requires { cents_of self + 2 ^ 64 ≤ 2 ^ 127 }
         ensures { cents_of result ≡ cents_of self + amount }
     {
-        let low = std::num::wrapping_add_u64(self.1, amount);
-        if low < amount {
+        let (low, carried) = self.1.overflowing_add(amount);
+        if carried {
             Cents(self.0 + 1, low)
         } else {
             Cents(self.0, low)
@@ -91,21 +92,19 @@ impl Tally {
         requires { Room (totals_of self).accepted_number (totals_of self).accepted_cents }
         ensures { totals_of result ≡ with_accepted (totals_of self) amount }
     {
-        let rejected = self.rejected;
         Tally {
             accepted: self.accepted.plus(amount),
-            rejected,
+            rejected: self.rejected,
         }
     }
 
-    // With a message more that was rejected or fell.
+    // With a message more that was rejected or fell. One function for both would take the side and match on it: no plainer.
     pub fn reject(self, amount: u64) -> Tally
         requires { Room (totals_of self).rejected_number (totals_of self).rejected_cents }
         ensures { totals_of result ≡ with_rejected (totals_of self) amount }
     {
-        let accepted = self.accepted;
         Tally {
-            accepted,
+            accepted: self.accepted,
             rejected: self.rejected.plus(amount),
         }
     }

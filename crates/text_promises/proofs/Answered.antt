@@ -11,13 +11,14 @@ use Rattle.elements.specs.Questions.{first_lack}
 use Rattle.reading.specs.Text.{parsed}
 use Rattle.reading.specs.Meaning.{sheet_in, fits_in}
 use Rattle.reading.specs.Reading.{answer_of, reads, number_of, length_of, where_of}
-use Rattle.reading.specs.declared.Reading.{Reading}
-use Rattle.reading.specs.declared.Reading.TheVariants.{Made, Form, Deep, Lack, Short}
+use Rattle.reading.specs.declared.Unread.{Unread}
+use Rattle.reading.specs.declared.Unread.TheVariants.{Form, Deep, Lack, Short}
+use Rattle.std.specs.Prelude.{Result, Ok, Err}
 use Rattle.text_promises.specs.Texts.{the_reader, Says, AnswersAsWritten}
 
 module _ (text space : List ℕ) where
   -- what is said goes by the answer
-  says : (answer : Reading) → (reads text space).answer ≡ answer → Says (the_reader text space) answer
+  says : (answer : Result ℕ Unread) → (reads text space).answer ≡ answer → Says (the_reader text space) answer
   says answer e = (ap number_of e, ap length_of e, ap where_of e)
 
   -- and the answer by what the text comes to
@@ -29,11 +30,11 @@ module _ (text space : List ℕ) where
     abbrev lack : ℕ
     lack = first_lack f (length text)
 
-    abbrev tests : Bool → Bool → Reading
-    tests t u = cond t (Lack lack) (cond u (Made (length (sheet_in text f))) Short)
+    abbrev tests : Bool → Bool → Result ℕ Unread
+    tests t u = cond t (Err (Lack lack)) (cond u (Ok (length (sheet_in text f))) (Err Short))
 
-    lacks : lack < length text → Says (the_reader text space) (Lack lack)
-    lacks low = says (Lack lack) (answered (read n f) was ∙ ap (λ (t : Bool). tests t (fits_in text f (length space))) (lt-ltb lack (length text) low))
+    lacks : lack < length text → Says (the_reader text space) (Err (Lack lack))
+    lacks low = says (Err (Lack lack)) (answered (read n f) was ∙ ap (λ (t : Bool). tests t (fits_in text f (length space))) (lt-ltb lack (length text) low))
 
     complete : length text ≤ lack → (u : Bool) → fits_in text f (length space) ≡ u → (reads text space).answer ≡ tests false u
     complete high u fit =
@@ -45,9 +46,9 @@ module _ (text space : List ℕ) where
 pub answers_as_written : AnswersAsWritten the_reader
 answers_as_written text space =
     record {
-      formless = λ p was. says text space (Form p) (answered text space (broken p) was);
-      too_deep = λ p was. says text space (Deep p) (answered text space (deep p) was);
+      formless = λ p was. says text space (Err (Form p)) (answered text space (broken p) was);
+      too_deep = λ p was. says text space (Err (Deep p)) (answered text space (deep p) was);
       lacking = λ n f was low. lacks text space n f was low;
-      too_short = λ n f was high fit. says text space Short (complete text space n f was high false fit);
-      made = λ n f was high fit. says text space (Made (length (sheet_in text f))) (complete text space n f was high true fit);
+      too_short = λ n f was high fit. says text space (Err Short) (complete text space n f was high false fit);
+      made = λ n f was high fit. says text space (Ok (length (sheet_in text f))) (complete text space n f was high true fit);
     }

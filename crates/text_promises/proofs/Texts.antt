@@ -24,7 +24,8 @@ use Rattle.elements.specs.Questions.{messages_in}
 use Rattle.reading.specs.Meaning.{places_in, bulk_in, bulks_in, sheet_in}
 use Rattle.reading.specs.Reading as reading
 use Rattle.reading.specs.Reading.{reads}
-use Rattle.reading.specs.declared.Reading.{Reading}
+use Rattle.reading.specs.declared.Unread.{Unread}
+use Rattle.std.specs.Prelude.{Result}
 use Rattle.reading.proofs.Sheets.{map_length}
 use Rattle.reading.proofs.InBytes.{sheet_bytes_lem}
 use Rattle.reading.proofs.Made.{WasMade, was_made, front_left, kinds_known_lem, untouched}
@@ -62,7 +63,7 @@ module _ (text sheet : List ℕ) (how : ReadAs the_reader text sheet) where
   pub sheet_is : sheet ≡ sheet_bytes (meant text)
   sheet_is =
       sym how.made
-      ∙ ap (λ (r : Reading). take (reading.length_of r) (reads text how.space).sheet) made.answer
+      ∙ ap (λ (r : Result ℕ Unread). take (reading.length_of r) (reads text how.space).sheet) made.answer
       ∙ front_left text how.space made
       ∙ ap (λ (bs : List Bulk). sheet_bytes bs) (sym meant_is)
 
@@ -232,11 +233,11 @@ keeps_the_space text space = by_number (ℕ_discrete (reading.number_of (reads t
         record {
           refused = λ unread. absurd (unread e);
           behind =
-              ap (λ (r : Reading). drop (reading.length_of r) (reads text space).sheet) made.answer
+              ap (λ (r : Result ℕ Unread). drop (reading.length_of r) (reads text space).sheet) made.answer
               ∙ ap (drop (length sheet)) (made.left ∙ sets-eq sheet space 0 room)
               ∙ drop_at sheet (drop (0 + length sheet) space) (length sheet) refl
               ∙ ap (λ (n : ℕ). drop n space) (zero-add (length sheet))
-              ∙ ap (λ (r : Reading). drop (reading.length_of r) space) (sym made.answer);
+              ∙ ap (λ (r : Result ℕ Unread). drop (reading.length_of r) space) (sym made.answer);
           long = ap length made.left ∙ length-sets space 0 sheet;
         }
     by_number (no e) =

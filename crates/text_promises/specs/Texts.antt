@@ -14,8 +14,9 @@ use Rattle.reading.specs.Text.{parsed}
 use Rattle.reading.specs.Meaning.{places_in, bulk_in, sheet_in, fits_in}
 use Rattle.reading.specs.Reading as reading
 use Rattle.reading.specs.Reading.{reads}
-use Rattle.reading.specs.declared.Reading.{Reading}
-use Rattle.reading.specs.declared.Reading.TheVariants.{Made, Form, Deep, Lack, Short}
+use Rattle.reading.specs.declared.Unread.{Unread}
+use Rattle.reading.specs.declared.Unread.TheVariants.{Form, Deep, Lack, Short}
+use Rattle.std.specs.Prelude.{Result, Ok, Err}
 use Rattle.tynderaxo.specs.Doors.{ReadOutcome, in_numbers}
 use Rattle.report.specs.Line.{bulk_line_width, message_line_width, identifier_in, first_line, sections_place, lines_at, after_lines}
 use Rattle.refusing.specs.Refusals.{Call, refusal_number, refusal}
@@ -80,20 +81,20 @@ says text d role = records.said_of text (places_in d) role
 -- ---- the answer is the right one
 
 -- number, length and place of an answer
-abbrev pub Says : ReadOutcome → Reading → Type 0
+abbrev pub Says : ReadOutcome → Result ℕ Unread → Type 0
 Says left answer = (left.number ≡ reading.number_of answer) × (left.length ≡ reading.length_of answer) × (left.at ≡ reading.where_of answer)
 
 pub record AnswersRight (text space : List ℕ) (left : ReadOutcome) : Type 0 where
   -- a text that is not of the form, or goes too deep, whichever is met first
-  pub formless : (p : ℕ) → parsed text ≡ broken p → Says left (Form p)
-  pub too_deep : (p : ℕ) → parsed text ≡ deep p → Says left (Deep p)
+  pub formless : (p : ℕ) → parsed text ≡ broken p → Says left (Err (Form p))
+  pub too_deep : (p : ℕ) → parsed text ≡ deep p → Says left (Err (Deep p))
   -- of the form, and some element lacks something: the first
-  pub lacking : (n : ℕ) (f : Forest) → parsed text ≡ read n f → first_lack f (length text) < length text → Says left (Lack (first_lack f (length text)))
+  pub lacking : (n : ℕ) (f : Forest) → parsed text ≡ read n f → first_lack f (length text) < length text → Says left (Err (Lack (first_lack f (length text))))
   -- none does: the sheet that the documents mean is made where it fits, and only there
   pub too_short : (n : ℕ) (f : Forest) → parsed text ≡ read n f → length text ≤ first_lack f (length text)
-      → fits_in text f (length space) ≡ false → Says left Short
+      → fits_in text f (length space) ≡ false → Says left (Err Short)
   pub made : (n : ℕ) (f : Forest) → parsed text ≡ read n f → length text ≤ first_lack f (length text)
-      → fits_in text f (length space) ≡ true → Says left (Made (length (sheet_in text f)))
+      → fits_in text f (length space) ≡ true → Says left (Ok (length (sheet_in text f)))
 
 abbrev pub AnswersAsWritten : Reader → Type 0
 AnswersAsWritten reader = (text space : List ℕ) → AnswersRight text space (reader text space)

@@ -10,6 +10,7 @@ use lib.Dec.{eqb, lit<}
 use lib.ListN.{length, get_or, take, drop, length-reverse}
 use lib.Seq.{take-add, take_all, take-take, drop-drop, get_or-drop}
 use borrow.Author.Tests.{eqb-true, eqb-false}
+use Rattle.std.specs.Int.{w64, from_le_bytes}
 use Rattle.wire.specs.Field.{Bytes, part, number_from, number_of, bytes_of, same}
 use Rattle.wire.proofs.Numbers.{number_append, read_written}
 use Rattle.wire.proofs.Texts.{same_itself, same_equal, part_length, drop_take, part_differs}
@@ -45,6 +46,14 @@ low_joined s at m n x y h ex ey = rw (ex, ey) (add_comm (low s at m) (low s (at 
         ∙ ap number_of (reverse-append (part s at m) (part s (at + m) n))
         ∙ number_append (reverse (part s (at + m) n)) (reverse (part s at m))
         ∙ ap (λ (k : ℕ). low s (at + m) n * 256 ^ k + low s at m) wide
+
+-- eight bytes, as the library weighs them
+pub low_eight : (s : List ℕ) (at : ℕ) → at + 8 ≤ length s
+    → from_le_bytes w64 (get_or s at 0 ∷ get_or s (at + 1) 0 ∷ get_or s (at + 2) 0 ∷ get_or s (at + 3) 0 ∷ get_or s (at + 4) 0 ∷ get_or s (at + 5) 0 ∷ get_or s (at + 6) 0 ∷ get_or s (at + 7) 0 ∷ []) ≡ low s at 8
+low_eight s at h = more 7 _ (omega arith) (more 6 _ (omega arith) (more 5 _ (omega arith) (more 4 _ (omega arith) (more 3 _ (omega arith) (more 2 _ (omega arith) (more 1 _ (omega arith) (low_one s at _ refl)))))))
+  where
+    more : (n x : ℕ) → at + n ≤ length s → x ≡ low s at n → x + get_or s (at + n) 0 * 256 ^ n ≡ low s at (n + 1)
+    more n x h e = low_joined s at n 1 x _ h e (low_one s (at + n) _ refl)
 
 -- ---- equal words
 

@@ -4,29 +4,25 @@
 ghost use Rattle.std.specs.Prelude.{◌≡◌, reverse, ◌+◌, ◌^◌, ◌≤◌, ◌<◌, length};
 ghost use Rattle.wire.specs.Field.{part, number_of, same};
 
-// Two, four and eight bytes from place at on as a number, lowest byte first: so the processor loads eight bytes in one step.
-fn two_at(s: &[u8], at: usize) -> u64
-    requires { at + 2 ≤ length s.now }
-    ensures { (result ≡ number_of (reverse (part s.now at 2))) × (result < 2 ^ 16) }
-{
-    s[at] as u64 + s[at + 1] as u64 * 256
-}
-
-fn four_at(s: &[u8], at: usize) -> u64
-    requires { at + 4 ≤ length s.now }
-    ensures { (result ≡ number_of (reverse (part s.now at 4))) × (result < 2 ^ 32) }
-{
-    two_at(s, at) + two_at(s, at + 2) * 65536
-}
-
+// Eight bytes from place at on as a number, lowest byte first: so the processor loads them in one step.
 fn eight_at(s: &[u8], at: usize) -> u64
     requires { at + 8 ≤ length s.now }
     ensures { result ≡ number_of (reverse (part s.now at 8)) }
 {
-    four_at(s, at) + four_at(s, at + 4) * 4294967296
+    u64::from_le_bytes([
+        s[at],
+        s[at + 1],
+        s[at + 2],
+        s[at + 3],
+        s[at + 4],
+        s[at + 5],
+        s[at + 6],
+        s[at + 7],
+    ])
 }
 
-// Whether two texts are equal in the eight bytes from place at on.
+// Whether two texts are equal in the eight bytes from place at on. That they are as long stays a clause: a struct of the two would be made
+// once for each comparison, no plainer.
 fn same_eight(a: &[u8], b: &[u8], at: usize) -> bool
     requires { (at + 8 ≤ length a.now) × (length a.now ≡ length b.now) }
     ensures { result ≡ same (part a.now at 8) (part b.now at 8) }
@@ -45,6 +41,7 @@ fn same_words(a: &[u8], b: &[u8]) -> bool
         return false;
     }
     let mut end = last;
+    // As a `for` no plainer: its places are those of `(9..last + 1).rev().step_by(8)`.
     while 8 < end {
         if !same_eight(a, b, end - 8) {
             return false;
@@ -58,12 +55,10 @@ fn same_bytes(a: &[u8], b: &[u8]) -> bool
     requires { length a.now ≡ length b.now }
     ensures { result ≡ same a.now b.now }
 {
-    let mut i = 0;
-    while i < a.len() {
+    for i in 0..a.len() {
         if a[i] != b[i] {
             return false;
         }
-        i += 1;
     }
     true
 }

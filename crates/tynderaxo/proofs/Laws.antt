@@ -9,17 +9,18 @@ use mir.Val.{bool_byte}
 use Rattle.wire.specs.Field.{bit}
 use Rattle.routing.specs.Lookup.{Routed, values_of}
 use Rattle.routing.specs.Promise.{AnswerTold}
-use Rattle.routing.specs.declared.Answer.{Answer}
-use Rattle.routing.specs.declared.Answer.TheVariants.{Row}
+use Rattle.routing.specs.declared.Refusal.{Refusal}
+use Rattle.routing.specs.declared.Row.{Row}
+use Rattle.std.specs.Prelude.{Option, Some, Result, Ok}
 
 byte_is_bit : (b : Bool) → bool_byte b ≡ bit b
 byte_is_bit true = refl
 byte_is_bit false = refl
 
 -- a row that was named has a number that fits 32 bits
-pub row_fits : (table : List ℕ) (answer : Answer) (expected : Routed) (i : ℕ) (b : Bool) → AnswerTold table answer expected → answer ≡ Row i b → i < 2 ^ 32
-row_fits table answer expected i b told e = lt_of_lt_of_le (rw e at told.small) (lit≤ tt)
+pub row_fits : (table : List ℕ) (answer : Result (Option Row) Refusal) (expected : Routed) (row : Row) → AnswerTold table answer expected → answer ≡ Ok (Some row) → row.place < 2 ^ 32
+row_fits table answer expected row told e = lt_of_lt_of_le (rw e at told.small) (lit≤ tt)
 
-pub row_told : (table : List ℕ) (answer : Answer) (expected : Routed) (i : ℕ) (b : Bool) → AnswerTold table answer expected → answer ≡ Row i b
-    → record { number = 0; found = 1; row = i; reachable = bool_byte b } ≡ expected
-row_told table answer expected i b told e = rw (byte_is_bit b) (ap values_of (sym e) ∙ told.is)
+pub row_told : (table : List ℕ) (answer : Result (Option Row) Refusal) (expected : Routed) (row : Row) → AnswerTold table answer expected → answer ≡ Ok (Some row)
+    → record { number = 0; found = 1; row = row.place; reachable = bool_byte row.reachable } ≡ expected
+row_told table answer expected row told e = rw (byte_is_bit row.reachable) (ap values_of (sym e) ∙ told.is)

@@ -1,5 +1,5 @@
 -- What the doors' structs say, as the definitions of the judge, of the lookup, of the reader and of open days say it. Assumes nothing.
-use Rattle.std.specs.Prelude.{List, ℕ}
+use Rattle.std.specs.Prelude.{List, ℕ, Result}
 use Rattle.judging.specs.Outcome.{Outcome}
 use Rattle.judging.specs.Indexed.{IndexedOutcome}
 use Rattle.routing.specs.Lookup.{Routed}
@@ -7,7 +7,7 @@ use Rattle.tynderaxo.specs.declared.TynderaxoAnswer.{TynderaxoAnswer}
 use Rattle.tynderaxo.specs.declared.TynderaxoIndexedAnswer.{TynderaxoIndexedAnswer}
 use Rattle.reading.specs.Reading as reading
 use Rattle.opendays.specs.Questions as opendays
-use Rattle.opendays.specs.declared.Answer as days
+use Rattle.opendays.specs.declared.Unanswered.{Unanswered}
 use Rattle.tynderaxo.specs.declared.TynderaxoDay.{TynderaxoDay}
 use Rattle.tynderaxo.specs.declared.TynderaxoRoute.{TynderaxoRoute}
 use Rattle.tynderaxo.specs.declared.TynderaxoReadAnswer.{TynderaxoReadAnswer}
@@ -50,5 +50,5 @@ pub record DayTold : Type 0 where
 abbrev pub day_told : TynderaxoDay → DayTold
 day_told d = record { number = d.number; value = d.value }
 
-abbrev pub day_in_numbers : days.Answer → DayTold
+abbrev pub day_in_numbers : Result ℕ Unanswered → DayTold
 day_in_numbers a = record { number = opendays.number_of a; value = opendays.value_of a }

@@ -12,7 +12,7 @@ ghost use Rattle.reading.specs.Reading.{reads};
 ghost use Rattle.opendays.specs.Questions.{open_day_answer, next_open_day_answer, open_days_answer};
 ghost use Rattle.tynderaxo.specs.Doors.{door_outcome, indexed_door_outcome, routed_by, read_outcome, in_numbers, day_told, day_in_numbers};
 
-use routing::Answer;
+use opendays::Unanswered;
 use rules::Terms;
 
 // A refusal's number and the length 0, or 0 and the report's length.
@@ -87,7 +87,7 @@ pub fn tynderaxo_judge_indexed(
 ) -> TynderaxoIndexedAnswer
     ensures { indexed_door_outcome result register.new positions.new report.new index.new ≡ indexed_outcome (call_of (dated date) sheet.now table.now register.old positions.old report.old) index.old }
 {
-    let told = judging::judge_indexed(
+    match judging::judge_indexed(
         Terms { date },
         sheet,
         table,
@@ -95,12 +95,17 @@ pub fn tynderaxo_judge_indexed(
         positions,
         report,
         index,
-    );
-    let answer = told.answer;
-    TynderaxoIndexedAnswer {
-        number: judging::number_of(answer),
-        length: judging::length_of(answer) as u64,
-        slots: told.slots,
+    ) {
+        Ok(judged) => TynderaxoIndexedAnswer {
+            number: 0,
+            length: judged.length as u64,
+            slots: judged.slots,
+        },
+        Err(refusal) => TynderaxoIndexedAnswer {
+            number: refusing::number_of(refusal),
+            length: 0,
+            slots: 0,
+        },
     }
 }
 
@@ -114,25 +119,24 @@ pub fn tynderaxo_build_index(register: &[u8], index: &mut [u8]) -> u32
 pub fn tynderaxo_lookup(date: u32, table: &[u8], bic: &[u8]) -> TynderaxoRoute
     ensures { routed_by result ≡ lookup date table.now bic.now }
 {
-    let answer = routing::lookup(date, table, bic);
-    match answer {
-        Answer::Refused(refusal) => TynderaxoRoute {
+    match routing::lookup(date, table, bic) {
+        Ok(Some(row)) => TynderaxoRoute {
+            number: 0,
+            found: 1,
+            row: row.place as u32,
+            reachable: row.reachable as u32,
+        },
+        Ok(None) => TynderaxoRoute {
+            number: 0,
+            found: 0,
+            row: 0,
+            reachable: 0,
+        },
+        Err(refusal) => TynderaxoRoute {
             number: routing::number_of(refusal),
             found: 0,
             row: 0,
             reachable: 0,
-        },
-        Answer::Missing => TynderaxoRoute {
-            number: 0,
-            found: 0,
-            row: 0,
-            reachable: 0,
-        },
-        Answer::Row { place, reachable } => TynderaxoRoute {
-            number: 0,
-            found: 1,
-            row: place as u32,
-            reachable: reachable as u32,
         },
     }
 }
@@ -148,32 +152,31 @@ pub fn tynderaxo_read(document: &[u8], sheet: &mut [u8]) -> TynderaxoReadAnswer
     }
 }
 
+impl From<Result<u32, Unanswered>> for TynderaxoDay {
+    ghost from_gives = { λ answer day. day_told day ≡ day_in_numbers answer };
+
+    fn from(answer: Result<u32, Unanswered>) -> TynderaxoDay {
+        TynderaxoDay {
+            number: opendays::number_of(answer),
+            value: opendays::value_of(answer),
+        }
+    }
+}
+
 pub fn tynderaxo_open_day(date: u32) -> TynderaxoDay
     ensures { day_told result ≡ day_in_numbers (open_day_answer date) }
 {
-    let answer = opendays::open_day(date);
-    TynderaxoDay {
-        number: opendays::number_of(answer),
-        value: opendays::value_of(answer),
-    }
+    TynderaxoDay::from(opendays::open_day(date))
 }
 
 pub fn tynderaxo_next_open_day(date: u32) -> TynderaxoDay
     ensures { day_told result ≡ day_in_numbers (next_open_day_answer date) }
 {
-    let answer = opendays::next_open_day(date);
-    TynderaxoDay {
-        number: opendays::number_of(answer),
-        value: opendays::value_of(answer),
-    }
+    TynderaxoDay::from(opendays::next_open_day(date))
 }
 
 pub fn tynderaxo_open_days(from: u32, to: u32) -> TynderaxoDay
     ensures { day_told result ≡ day_in_numbers (open_days_answer from to) }
 {
-    let answer = opendays::open_days(from, to);
-    TynderaxoDay {
-        number: opendays::number_of(answer),
-        value: opendays::value_of(answer),
-    }
+    TynderaxoDay::from(opendays::open_days(from, to))
 }

@@ -180,11 +180,6 @@ four_read s at a b c d h ea eb ec ed =
     omega (arith, ea, eb, ec, ed, first, get_or-drop at s 1 0, get_or-drop at s 2 0, get_or-drop at s 3 0, four_first (drop at s) long)
 
 module _ (s : List ℕ) (bytes : Bytes s) where
-  pub four_whole : (a : ℕ) → length s ≡ 4 → a ≡ number_at s 0 4 → a ≡ number_of s % 2 ^ 64
-  four_whole a long e =
-      let all : length s ≤ 4 = omega arith in
-      e ∙ ap number_of (take_all 4 s all) ∙ sym (word_fits s bytes (omega arith))
-
   pub eight_whole : (a b : ℕ) → length s ≡ 8 → a ≡ number_at s 0 4 → b ≡ number_at s 4 4 → a * 4294967296 + b ≡ number_of s % 2 ^ 64
   eight_whole a b long ea eb =
       let short : length (drop 4 s) ≡ 4 = rw (length-drop 4 s) (omega arith) in

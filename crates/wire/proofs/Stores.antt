@@ -7,7 +7,7 @@ use native.Mathlib.Nat.{add-zero, add-suc, suc-add, mod-lt}
 use native.Mathlib.Numerals.{add-one}
 use native.Mathlib.Omega.{arith}
 use lib.ListN.{length, get_or, take, drop, set, drop_of_length-le, length-append, length-drop, take-append-drop}
-use lib.Seq.{sets, drop-cons, set_comm, set_out, sets-eq, take_at, drop_at, length-take-le, drop-set-add, drop-set-lt, take-set-le, take_all, length-sets, take-add}
+use lib.Seq.{sets, drop-cons, drop-drop, set_comm, set_out, sets-eq, take_at, drop_at, length-take-le, drop-set-add, drop-set-lt, take-set-le, take_all, length-sets, take-add}
 use Rattle.wire.specs.Field.{part, bytes_of, Bytes}
 use Rattle.wire.proofs.Sides.{le_or_lt}
 use Rattle.wire.proofs.Numbers.{bytes_length, bytes_split}
@@ -120,6 +120,34 @@ text_ends d at i s h = ⊎_elim
   where
     ends : (a b at i : ℕ) → min a (b - min at b) ≤ i → (a ≤ i) ⊎ (b ≤ at + i)
     ends a b at i h = ⊎_elim (λ (l : a ≤ i). inl l) (λ (l : i < a). inr (omega arith)) (le_or_lt a i)
+
+-- as much of it as has room, copied over the part there
+pub text_stored : (d : List ℕ) (at : ℕ) (s back : List ℕ) (from n to : ℕ) → from ≡ min at (length d) → n ≡ min (length s) (length d - from) → to ≡ n → back ≡ take n s
+    → put_mid from to d back ≡ sets d at s
+text_stored d at s back from n to ef en et eb =
+    rw (eb, et) (over ∙ place ∙ sym (ap (sets d at) (sym (take-append-drop n s)) ∙ sets_append d at (take n s) (drop n s) ∙ rest))
+  where
+    long : length (take n s) ≡ n
+    long = length-take-le n s (omega arith)
+
+    -- what has no room stores nothing
+    rest : sets (sets d at (take n s)) (at + length (take n s)) (drop n s) ≡ sets d at (take n s)
+    rest = ⊎_elim
+        (λ (all : length s ≤ n). rw (drop_of_length-le s all))
+        (λ (less : n < length s). sets_out (sets d at (take n s)) (at + length (take n s)) (drop n s) (rw (long, length-sets d at (take n s)) (omega arith)))
+        (le_or_lt (length s) n)
+
+    place : sets d from (take n s) ≡ sets d at (take n s)
+    place = ⊎_elim
+        (λ (within : at ≤ length d). let same : from ≡ at = omega arith in rw same)
+        (λ (out : length d < at). let none : n ≡ 0 = omega arith in rw none)
+        (le_or_lt at (length d))
+
+    over : put_mid from n d (take n s) ≡ sets d from (take n s)
+    over = sym (
+        sets-eq (take n s) d from (omega (arith, long))
+        ∙ append_assoc (take from d) (take n s) (drop (from + length (take n s)) d)
+        ∙ ap (λ (l : List ℕ). take from d ++ (take n s ++ l)) (rw long (sym (drop-drop n from d))))
 
 -- ---- runs of stores
 

@@ -11,13 +11,7 @@ pub const COUNT_WIDTH: usize = 4;
 pub fn least(a: usize, b: usize) -> usize
     ensures { result ≡ min a b }
 {
-    if a < b { a } else { b }
-}
-
-fn wide(x: u8) -> u64
-    ensures { (result ≡ x) × (result < 256) }
-{
-    x as u64
+    a.min(b)
 }
 
 // A number of four bytes that are known to be there. The compiler makes one load of it.
@@ -25,7 +19,7 @@ pub fn four_at(s: &[u8], at: usize) -> u64
     requires { at + 4 ≤ length s.now }
     ensures { (result ≡ number_at s.now at 4) × (result < 256 ^ 4) }
 {
-    wide(s[at]) * 16777216 + wide(s[at + 1]) * 65536 + wide(s[at + 2]) * 256 + wide(s[at + 3])
+    u64::from(u32::from_be_bytes([s[at], s[at + 1], s[at + 2], s[at + 3]]))
 }
 
 // The number that s writes, highest byte first, modulo 2^64: exact up to eight bytes. The widths that are read most take a load or two.
@@ -39,43 +33,50 @@ pub fn number(s: &[u8]) -> u64
         return four_at(s, 0);
     }
     let mut v: u64 = 0;
-    let mut i = 0;
-    while i < s.len() {
-        v = v % 72057594037927936 * 256 + s[i] as u64;
-        i += 1;
+    for byte in s {
+        v = v % 72057594037927936 * 256 + u64::from(*byte);
     }
     v
 }
 
 // The n bytes from place at on, or what is left of them.
+#[tactic(auto, using(crate::proofs::Texts::part_between))]
 pub fn text_at(s: &[u8], at: usize, n: usize) -> &[u8]
     ensures { result.now ≡ part s.now at n }
 {
-    let from = least(at, s.len());
-    let to = from + least(n, s.len() - from);
+    let from = at.min(s.len());
+    let to = from + n.min(s.len() - from);
     &s[from..to]
+}
+
+// The number in the N bytes from place at on.
+fn field<const N: usize>(s: &[u8], at: usize) -> u64
+    requires { N ≤ 8 }
+    ensures { (result ≡ number_at s.now at N) × (result < 256 ^ N) }
+{
+    number(text_at(s, at, N))
 }
 
 pub fn u8_at(s: &[u8], at: usize) -> u8
     ensures { result ≡ number_at s.now at 1 }
 {
-    number(text_at(s, at, 1)) as u8
+    field::<1>(s, at) as u8
 }
 
 pub fn u16_at(s: &[u8], at: usize) -> u16
     ensures { result ≡ number_at s.now at 2 }
 {
-    number(text_at(s, at, 2)) as u16
+    field::<2>(s, at) as u16
 }
 
 pub fn u32_at(s: &[u8], at: usize) -> u32
     ensures { result ≡ number_at s.now at 4 }
 {
-    number(text_at(s, at, 4)) as u32
+    field::<4>(s, at) as u32
 }
 
 pub fn u64_at(s: &[u8], at: usize) -> u64
     ensures { result ≡ number_at s.now at 8 }
 {
-    number(text_at(s, at, 8))
+    field::<8>(s, at)
 }

@@ -1,14 +1,12 @@
 -- The laws that the proofs of the tests share, and those that crates above may cite. Assumes nothing.
-use Prim.Native.Char.{code}
 use mathlib.Core.Path.{◌≡◌, refl, sym, ap, ◌∙◌}
-use mathlib.Core.Bool.{Bool, true, false, cond, not, ◌&&◌, ◌||◌, false≢true, and-true, and-false, not-not}
+use mathlib.Core.Bool.{Bool, true, false, cond, not, ◌&&◌, ◌||◌, false≢true, and-true, and-false}
 use mathlib.Core.List.{List, [], ◌∷◌, ◌++◌}
 use Prim.Native.Nat.{ℕ, suc, ◌+◌, ◌-◌, ◌≤◌, ◌<◌}
 use native.Mathlib.Nat.{sub-zero}
-use native.Mathlib.Numerals.{add-one}
 use native.Mathlib.Omega.{arith}
 use lib.Dec.{leb, ltb, eqb, eqb-suc-zero, lit≤}
-use lib.ListN.{length, get_or, take, length-take, get_or-eq_default}
+use lib.ListN.{length, get_or, take, length-take}
 use lib.Seq.{take-suc}
 use borrow.Author.Tests.{le-leb, lt-leb, ne_eqb, eqb-true, eqb-false, ltb-true, ltb-false, not-true, not-false}
 use Rattle.wire.specs.Places.{every_from}
@@ -104,18 +102,6 @@ kept_within (c ∷ cs) = by_test (kept cs) (kept_within cs) (eqb (kept cs) 0 && 
     by_test k h false = omega arith
 
 -- ---- identifiers
-
-module _ (t : List ℕ) (i : ℕ) where
-  pub no_slash : (get_or t i 0 ≡ code "/" → ⊥) → false ≡ not (apart t i)
-  no_slash e = rw (ne_eqb (get_or t i 0) (code "/") e)
-
-  pub next_slash : get_or t i 0 ≡ code "/" → has is_slash t (i + 1) ≡ not (apart t i)
-  next_slash e = (rw (e, add-one i) (sym (not-not (has is_slash t (suc i)))))
-
-  pub last_slash : length t ≤ i + 1 → false ≡ not (apart t i)
-  last_slash h =
-      let past : get_or t (suc i) 0 ≡ 0 = get_or-eq_default t 0 (omega arith) in
-      sym (rw (past, and-false (has is_slash t i)))
 
 -- a loop at place i: what is left of the two scans
 abbrev pub run_left : List ℕ → ℕ → Bool

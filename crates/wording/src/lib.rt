@@ -22,12 +22,10 @@ pub fn allowed(c: u8) -> bool
 pub fn kept(s: &[u8]) -> usize
     ensures { result ≡ kept s.now }
 {
-    let mut n = s.len();
-    while 0 < n {
-        if s[n - 1] != b' ' {
-            return n;
+    for n in (0..s.len()).rev() {
+        if s[n] != b' ' {
+            return n + 1;
         }
-        n -= 1;
     }
     0
 }
@@ -37,29 +35,20 @@ fn doubled(t: &[u8], i: usize) -> bool
     requires { i < length t.now }
     ensures { result ≡ not (apart t.now i) }
 {
-    if t[i] != b'/' {
-        return false;
-    }
-    if i + 1 < t.len() {
-        t[i + 1] == b'/'
-    } else {
-        false
-    }
+    t[i] == b'/' && i + 1 < t.len() && t[i + 1] == b'/'
 }
 
 // Whether every character may stand in an identifier, and no two slashes stand together.
 fn spelled(t: &[u8]) -> bool
     ensures { result ≡ spelled t.now }
 {
-    let mut i = 0;
-    while i < t.len() {
+    for i in 0..t.len() {
         if !allowed(t[i]) {
             return false;
         }
         if doubled(t, i) {
             return false;
         }
-        i += 1;
     }
     true
 }

@@ -6,17 +6,13 @@ ghost use Rattle.std.specs.Prelude.{◌≡◌, ◌*◌, ◌+◌, ◌^◌};
 ghost use Rattle.std.proofs.lemmas.List.Edits.{sets};
 ghost use Rattle.wire.specs.Field.{bytes_of};
 
-use wire::least;
-
 // Writes v in the n bytes from place at on.
 pub fn put_number(d: &mut [u8], at: usize, n: usize, v: u64)
     ensures { d.new ≡ sets d.old at (bytes_of n v) }
 {
-    let room = d.len() - least(at, d.len());
+    let room = d.len() - at.min(d.len());
     let mut rest = v;
-    let mut i = n;
-    while 0 < i {
-        i -= 1;
+    for i in (0..n).rev() {
         if i < room {
             d[at + i] = (rest % 256) as u8;
         }
@@ -35,14 +31,11 @@ pub fn put_halves(d: &mut [u8], at: usize, high: u64, low: u64)
 }
 
 // Writes the text s from place at on.
+#[tactic(auto, using(wire::proofs::Stores::text_stored))]
 pub fn put_text(d: &mut [u8], at: usize, s: &[u8])
     ensures { d.new ≡ sets d.old at s.now }
 {
-    let room = d.len() - least(at, d.len());
-    let n = least(s.len(), room);
-    let mut i = 0;
-    while i < n {
-        d[at + i] = s[i];
-        i += 1;
-    }
+    let from = at.min(d.len());
+    let n = s.len().min(d.len() - from);
+    d[from..from + n].copy_from_slice(&s[..n]);
 }

@@ -3,7 +3,6 @@ use mathlib.Core.Path.{◌∙◌}
 use native.Mathlib.Omega.{arith}
 use Rattle.wording.specs.Wording.{reasons}
 use Rattle.codes.proofs.Laws.{reason_at, one_of_here, one_of_more, one_of_ends}
-use borrow.Author.Rules.{rules}
 use Rattle.codes.proofs.known_reason.Goals as goal
 
 pub returns-then-same : goal.returns-then-same
@@ -11,14 +10,14 @@ returns-then-same c =
     let s = c.args.s.now in
     let loop = c.loop-i in
     let here = reason_at s _ _ loop.i (omega arith) c.text_at.ensures c.same.ensures in
-    one_of_here s reasons loop.i (omega arith) _ here c.if-same.true ∙ loop.invariant.1
+    one_of_here s reasons loop.i (omega arith) _ here c.if-same.true ∙ loop.invariant
 
 pub loop-i-preserved : goal.loop-i-preserved
 loop-i-preserved c =
     let s = c.args.s.now in
     let loop = c.loop-i in
     let here = reason_at s _ _ loop.i (omega arith) c.text_at.ensures c.same.ensures in
-    (search rules, one_of_more s reasons loop.i (omega arith) _ here c.if-same.false ∙ loop.invariant.1)
+    one_of_more s reasons loop.i (omega arith) _ here c.if-same.false ∙ loop.invariant
 
 pub returns : goal.returns
-returns c = one_of_ends c.args.s.now reasons c.loop-i.i (omega arith) ∙ c.loop-i.invariant.1
+returns c = one_of_ends c.args.s.now reasons c.loop-i.i (omega arith) ∙ c.loop-i.invariant

@@ -8,6 +8,3 @@ use Rattle.decimals.proofs.put_digits.Given as goal
 
 abbrev pub invariant-loop-i : goal.invariant-loop-i
 invariant-loop-i l = (length l.out ≡ length l.initial.out) × (sets l.out l.at (digits_of l.i l.rest) ≡ sets l.initial.out l.at (digits_of l.n l.v))
-
-abbrev pub decreases-loop-i : goal.decreases-loop-i
-decreases-loop-i l = l.i

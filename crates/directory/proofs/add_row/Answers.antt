@@ -1,13 +1,8 @@
 -- `directory::add_row` meets its contract: a row that counts is added, another is not. Assumes nothing.
 use mathlib.Core.Path.{◌∙◌}
-use native.Mathlib.Nat.{le_of_lt}
 use Rattle.slots.specs.Asked.{end_of}
-use Rattle.directory.proofs.Laws.{rows_within, row_added, row_passed}
+use Rattle.directory.proofs.Laws.{row_added, row_passed}
 use Rattle.directory.proofs.add_row.Goals as goal
-
-pub search-ended-requires : goal.search-ended-requires
-search-ended-requires c =
-    rw c.row_layout.ensures (rows_within c.args.table.now c.args.i c.requires.formed (le_of_lt c.requires.row))
 
 pub returns-then-counts : goal.returns-then-counts
 returns-then-counts c =

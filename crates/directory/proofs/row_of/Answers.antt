@@ -1,11 +1,6 @@
 -- `directory::row_of` meets its contract: the row of a BIC is the one that its search names. Assumes nothing.
-use Rattle.directory.proofs.Laws.{rows_within, row_least, row_told, nothing_told}
-use borrow.Author.Rules.{rules}
+use Rattle.directory.proofs.Laws.{row_least, row_told, nothing_told}
 use Rattle.directory.proofs.row_of.Goals as goal
-
-pub search-ended-requires : goal.search-ended-requires
-search-ended-requires c =
-    rw c.row_layout.ensures (rows_within c.args.table.now _ c.requires.formed (search rules))
 
 pub overflow_sub-result : goal.overflow_sub-result
 overflow_sub-result c =

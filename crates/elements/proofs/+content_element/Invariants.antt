@@ -12,9 +12,9 @@ decreases-element l = 2 * l.depth
 abbrev pub decreases-content : goal.decreases-content
 decreases-content l = 2 * l.depth + 1
 
-abbrev pub invariant-content-loop-p : goal.invariant-content-loop-p
-invariant-content-loop-p l =
+abbrev pub invariant-content-loop-j : goal.invariant-content-loop-j
+invariant-content-loop-j l =
     (length l.notes ≡ length l.initial.notes) × Reading (element_at l.depth l.s) l.s l.role l.at l.i l.initial.notes l.notes l.counts
 
-abbrev pub decreases-content-loop-p : goal.decreases-content-loop-p
-decreases-content-loop-p l = length l.s - l.i
+abbrev pub decreases-content-loop-j : goal.decreases-content-loop-j
+decreases-content-loop-j l = length l.s - l.i

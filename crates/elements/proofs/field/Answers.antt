@@ -1,37 +1,52 @@
 -- `elements::field` meets its contract: each answer is that of the way that led to it. Assumes nothing.
-use mathlib.Core.Path.{sym, ◌∙◌}
-use borrow.Author.Rules.{rules}
-use Prim.Native.Nat.{◌+◌}
-use Rattle.tags.specs.Names.{name_end}
-use Rattle.elements.proofs.Fields.{known_from, field_noted, filled_noted, field_open, field_foreign, field_empty, field_unfit, field_empty_foreign, field_faulty}
+use mathlib.Core.Path.{refl, sym, ap, ◌∙◌}
+use Rattle.std.specs.Prelude.{Ok}
+use Rattle.std.proofs.lemmas.Result.{err_from_is_err_and}
+use Rattle.tags.specs.Tags.{start_at}
+use Rattle.elements.proofs.Steps.{ok_formed, err_broken}
+use Rattle.elements.proofs.Fields.{field_noted, filled_noted, field_open, field_foreign, field_empty, field_unfit, field_empty_foreign, field_faulty}
 use Rattle.elements.proofs.field.Goals as goal
+
+pub returns-in_err-tag : goal.returns-in_err-tag
+returns-in_err-tag c =
+    let a = c.args in
+    let p = err_from_is_err_and c.from_residual.result c.from_residual.ensures.1 in
+    let breaks = err_broken (start_at a.begun.now.text.now a.begun.now.at) c.in_err-tag.field-0.0 (sym c.start.ensures ∙ c.in_err-tag.was) in
+    rw (p.1, p.2, breaks.is, field_faulty a.role a.begun.now.text.now a.begun.now.at breaks.place breaks.was) record { step = refl; notes = tt }
 
 pub returns-then-not-currency : goal.returns-then-not-currency
 returns-then-not-currency c =
-    rw (field_foreign c.args.role c.args.s.now c.args.at c.in-Open.end c.in-Open.inside (sym c.start_from.ensures ∙ c.in-Open.is) (known_from c.args.role c.args.s.now c.args.to (name_end c.args.s.now (c.args.at + 1)) c.in-Open.end _ c.requires.to_value (sym c.currency.ensures ∙ c.if-not-currency.true)))
-    record { step = search rules; notes = tt }
-
-pub returns-then-not-currency-2 : goal.returns-then-not-currency-2
-returns-then-not-currency-2 c =
-    rw (field_empty_foreign c.args.role c.args.s.now c.args.at c.in-Empty.end c.in-Empty.next (sym c.start_from.ensures ∙ c.in-Empty.is) (known_from c.args.role c.args.s.now c.args.to (name_end c.args.s.now (c.args.at + 1)) c.in-Empty.end _ c.requires.to_value (sym c.currency-in-Empty.ensures ∙ c.if-not-currency-2.true)))
-    record { step = search rules; notes = tt }
-
-pub returns-then-not-fits_empty : goal.returns-then-not-fits_empty
-returns-then-not-fits_empty c =
-    rw (field_unfit c.args.role c.args.s.now c.args.at c.in-Empty.end c.in-Empty.next (sym c.start_from.ensures ∙ c.in-Empty.is) (known_from c.args.role c.args.s.now c.args.to (name_end c.args.s.now (c.args.at + 1)) c.in-Empty.end _ c.requires.to_value (sym c.currency-in-Empty.ensures ∙ c.if-not-currency-2.false)) (sym c.fits_empty.ensures ∙ c.if-not-fits_empty.true))
-    record { step = search rules; notes = tt }
+    let a = c.args in
+    let tag = ok_formed (start_at a.begun.now.text.now a.begun.now.at) c.in_ok-tag.tag (sym c.start.ensures ∙ c.in_ok-tag.was) ∙ ap Ok c.in-Open.is in
+    let foreign = sym c.currency.ensures ∙ c.if-not-currency.true in
+    rw (field_foreign a.role a.begun.now.text.now a.begun.now.at c.in-Open.end c.in-Open.inside tag foreign) record { step = refl; notes = tt }
 
 pub returns-else-not-currency : goal.returns-else-not-currency
 returns-else-not-currency c =
-    rw (field_open c.args.role c.args.s.now c.args.at c.in-Open.end c.in-Open.inside (sym c.start_from.ensures ∙ c.in-Open.is) (known_from c.args.role c.args.s.now c.args.to (name_end c.args.s.now (c.args.at + 1)) c.in-Open.end _ c.requires.to_value (sym c.currency.ensures ∙ c.if-not-currency.false)))
-    record { step = c.filled_field.ensures; notes = rw c.note.ensures (filled_noted c.args.role c.args.s.now c.args.at c.in-Open.inside c.requires.bulk_identifier_le_role c.args.notes.now) }
+    let a = c.args in
+    let tag = ok_formed (start_at a.begun.now.text.now a.begun.now.at) c.in_ok-tag.tag (sym c.start.ensures ∙ c.in_ok-tag.was) ∙ ap Ok c.in-Open.is in
+    let euros = sym c.currency.ensures ∙ c.if-not-currency.false in
+    rw (field_open a.role a.begun.now.text.now a.begun.now.at c.in-Open.end c.in-Open.inside tag euros)
+    record { step = c.filled_field.ensures; notes = rw c.note.ensures (filled_noted a.role a.begun.now.text.now a.begun.now.at c.in-Open.inside c.requires a.notes.now) }
+
+pub returns-then-not-currency-2 : goal.returns-then-not-currency-2
+returns-then-not-currency-2 c =
+    let a = c.args in
+    let tag = ok_formed (start_at a.begun.now.text.now a.begun.now.at) c.in_ok-tag.tag (sym c.start.ensures ∙ c.in_ok-tag.was) ∙ ap Ok c.in-Empty.is in
+    let foreign = sym c.currency-in-Empty.ensures ∙ c.if-not-currency-2.true in
+    rw (field_empty_foreign a.role a.begun.now.text.now a.begun.now.at c.in-Empty.end c.in-Empty.next tag foreign) record { step = refl; notes = tt }
+
+pub returns-then-not-fits_empty : goal.returns-then-not-fits_empty
+returns-then-not-fits_empty c =
+    let a = c.args in
+    let tag = ok_formed (start_at a.begun.now.text.now a.begun.now.at) c.in_ok-tag.tag (sym c.start.ensures ∙ c.in_ok-tag.was) ∙ ap Ok c.in-Empty.is in
+    let euros = sym c.currency-in-Empty.ensures ∙ c.if-not-currency-2.false in
+    rw (field_unfit a.role a.begun.now.text.now a.begun.now.at c.in-Empty.end c.in-Empty.next tag euros (sym c.fits_empty.ensures ∙ c.if-not-fits_empty.true)) record { step = refl; notes = tt }
 
 pub returns-else-not-fits_empty : goal.returns-else-not-fits_empty
 returns-else-not-fits_empty c =
-    rw (field_empty c.args.role c.args.s.now c.args.at c.in-Empty.end c.in-Empty.next (sym c.start_from.ensures ∙ c.in-Empty.is) (known_from c.args.role c.args.s.now c.args.to (name_end c.args.s.now (c.args.at + 1)) c.in-Empty.end _ c.requires.to_value (sym c.currency-in-Empty.ensures ∙ c.if-not-currency-2.false)) (sym c.fits_empty.ensures ∙ c.if-not-fits_empty.false))
-    record { step = search rules; notes = c.note-in-Empty.ensures ∙ field_noted c.args.role c.args.s.now c.args.at c.args.at c.requires.bulk_identifier_le_role c.args.notes.now c.args.at }
-
-pub returns-in-Faulty : goal.returns-in-Faulty
-returns-in-Faulty c =
-    rw (field_faulty c.args.role c.args.s.now c.args.at c.in-Faulty.p (sym c.start_from.ensures ∙ c.in-Faulty.is))
-    record { step = search rules; notes = tt }
+    let a = c.args in
+    let tag = ok_formed (start_at a.begun.now.text.now a.begun.now.at) c.in_ok-tag.tag (sym c.start.ensures ∙ c.in_ok-tag.was) ∙ ap Ok c.in-Empty.is in
+    let euros = sym c.currency-in-Empty.ensures ∙ c.if-not-currency-2.false in
+    rw (field_empty a.role a.begun.now.text.now a.begun.now.at c.in-Empty.end c.in-Empty.next tag euros (sym c.fits_empty.ensures ∙ c.if-not-fits_empty.false))
+    record { step = refl; notes = c.note-in-Empty.ensures ∙ field_noted a.role a.begun.now.text.now a.begun.now.at a.begun.now.at c.requires a.notes.now a.begun.now.at }

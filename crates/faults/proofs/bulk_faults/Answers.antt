@@ -10,8 +10,7 @@ use Rattle.faults.proofs.bulk_faults.Goals as goal
 
 pub returns : goal.returns
 returns c =
-    -- after each bit was set, from the last to the first
-    -- after each fact was asked; that of a repeat was asked before
+    -- m0 to m7: the mask after bit 0 to bit 7 was set, each by its fact; that of a repeat was asked before
     let a = c.args in
     let asked = c.requires in
     let identifier = c.identifier-identifier.ensures in

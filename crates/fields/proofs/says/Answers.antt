@@ -3,9 +3,16 @@ use mathlib.Core.Path.{sym, ap, ◌∙◌}
 use mathlib.Core.List.{List}
 use Prim.Native.Nat.{ℕ}
 use Rattle.wire.specs.Field.{same}
+use Rattle.prose.specs.Prose.{said_at}
+use Rattle.fields.proofs.Bytes.{same_cut}
 use Rattle.fields.proofs.says.Goals as goal
 
-pub returns-in-Says : goal.returns-in-Says
-returns-in-Says c =
-    let told = c.straight_at.ensures c.in-Says.n c.in-Says.is in
-    c.same.ensures ∙ ap (λ (t : List ℕ). same t c.args.word.now) (c.text_at.ensures ∙ sym told)
+pub returns : goal.returns
+returns c =
+    let args = c.args in
+    let w = args.word.now in
+    let t = said_at args.s.now args.at in
+    let told = c.bytes.result.now in
+    let kept = c.bytes.ensures in
+    let cut = rw (← kept) at c.at.ensures.kept in
+    c.same.ensures ∙ sym (same_cut told w c.requires) ∙ ap (λ (r : List ℕ). same r w) cut ∙ same_cut t w c.requires

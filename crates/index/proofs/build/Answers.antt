@@ -1,11 +1,7 @@
 -- `index::build` meets its contract: the index of the entries in use. Assumes nothing.
 use mathlib.Core.Path.{◌∙◌}
-use Rattle.index.proofs.Laws.{keys_within}
 use Rattle.index.proofs.Telling.{built_told}
 use Rattle.index.proofs.build.Goals as goal
-
-pub build-requires : goal.build-requires
-build-requires c = rw (c.entry_layout.ensures, c.in_use.ensures) (keys_within c.args.register.now c.requires.formed)
 
 pub returns : goal.returns
 returns c =

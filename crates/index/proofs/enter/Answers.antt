@@ -1,6 +1,6 @@
 -- `index::enter` meets its contract: a key added to the register and to its index. Assumes nothing.
 use mathlib.Core.Path.{◌∙◌}
-use Rattle.index.proofs.Telling.{entered_by_lem, entered_plain, entered_long}
+use Rattle.index.proofs.Telling.{entered_by_lem, entered_plain}
 use Rattle.index.proofs.enter.Goals as goal
 use Rattle.index.proofs.enter.Goals.{then-indexed, else-indexed}
 
@@ -14,8 +14,3 @@ returns c =
         | else-indexed w ↦ entered_plain args.register.now args.index.now args.key.now args.indexed _ w.if-indexed.false w.index-is
       ];
     }
-
-pub shape_of-index : goal.shape_of-index
-shape_of-index c =
-    let args = c.args in
-    entered_long args.register.now args.index.now args.key.now args.indexed _ c.requires.ready.kept (returns c).kept

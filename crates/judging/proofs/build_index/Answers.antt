@@ -1,5 +1,5 @@
 -- `judging::build_index` meets its contract. Assumes nothing.
-use Rattle.judging.proofs.Indices.{unformed_told, other_length_told, built_told, build_ready}
+use Rattle.judging.proofs.Indices.{unformed_told, other_length_told, built_told}
 use Rattle.judging.proofs.build_index.Goals as goal
 
 pub returns-then-not-well_formed : goal.returns-then-not-well_formed
@@ -11,11 +11,6 @@ pub returns-then-index-length_for : goal.returns-then-index-length_for
 returns-then-index-length_for c =
     let a = c.args in
     other_length_told a.register.now a.index.now _ _ c.well_formed-2.ensures (c.if-not-well_formed.false) c.length_for.ensures c.if-index-length_for.true
-
-pub build-requires : goal.build-requires
-build-requires c =
-    let a = c.args in
-    build_ready a.register.now a.index.now _ _ c.well_formed-2.ensures (c.if-not-well_formed.false) c.length_for.ensures c.if-index-length_for.false
 
 pub returns : goal.returns
 returns c =

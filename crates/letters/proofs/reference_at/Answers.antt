@@ -2,59 +2,26 @@
 use mathlib.Core.Path.{sym, ◌∙◌}
 use native.Mathlib.Omega.{arith}
 use Rattle.wire.specs.Field.{text}
-use Rattle.letters.specs.References.{reference_at}
 use Rattle.letters.proofs.References.{stands_there}
 use Rattle.letters.proofs.reference_at.Goals as goal
 
-pub overflow_add-result : goal.overflow_add-result
-overflow_add-result c = omega (arith, stands_there c.args.s.now c.args.at (text "&lt;") (sym c.stands_at.ensures ∙ c.if-stands_at.true) (omega arith))
-
-pub returns-then-stands_at : goal.returns-then-stands_at
-unfolding reference_at
-returns-then-stands_at c = rw (sym c.stands_at.ensures ∙ c.if-stands_at.true)
-
-pub overflow_add-result-then-stands_at-2 : goal.overflow_add-result-then-stands_at-2
-overflow_add-result-then-stands_at-2 c = omega (arith, stands_there c.args.s.now c.args.at (text "&gt;") (sym c.stands_at-2.ensures ∙ c.if-stands_at-2.true) (omega arith))
-
-pub returns-then-stands_at-2 : goal.returns-then-stands_at-2
-unfolding reference_at
-returns-then-stands_at-2 c = rw (sym c.stands_at.ensures ∙ c.if-stands_at.false, sym c.stands_at-2.ensures ∙ c.if-stands_at-2.true)
-
-pub overflow_add-result-then-stands_at-3 : goal.overflow_add-result-then-stands_at-3
-overflow_add-result-then-stands_at-3 c = omega (arith, stands_there c.args.s.now c.args.at (text "&amp;") (sym c.stands_at-3.ensures ∙ c.if-stands_at-3.true) (omega arith))
-
-pub returns-then-stands_at-3 : goal.returns-then-stands_at-3
-unfolding reference_at
-returns-then-stands_at-3 c = rw (sym c.stands_at.ensures ∙ c.if-stands_at.false, sym c.stands_at-2.ensures ∙ c.if-stands_at-2.false, sym c.stands_at-3.ensures ∙ c.if-stands_at-3.true)
-
-pub overflow_add-result-then-stands_at-4 : goal.overflow_add-result-then-stands_at-4
-overflow_add-result-then-stands_at-4 c = omega (arith, stands_there c.args.s.now c.args.at (text "&apos;") (sym c.stands_at-4.ensures ∙ c.if-stands_at-4.true) (omega arith))
-
-pub returns-then-stands_at-4 : goal.returns-then-stands_at-4
-unfolding reference_at
-returns-then-stands_at-4 c = rw (sym c.stands_at.ensures ∙ c.if-stands_at.false, sym c.stands_at-2.ensures ∙ c.if-stands_at-2.false, sym c.stands_at-3.ensures ∙ c.if-stands_at-3.false, sym c.stands_at-4.ensures ∙ c.if-stands_at-4.true)
-
-pub overflow_add-result-then-stands_at-5 : goal.overflow_add-result-then-stands_at-5
-overflow_add-result-then-stands_at-5 c = omega (arith, stands_there c.args.s.now c.args.at (text "&quot;") (sym c.stands_at-5.ensures ∙ c.if-stands_at-5.true) (omega arith))
-
-pub returns-then-stands_at-5 : goal.returns-then-stands_at-5
-unfolding reference_at
-returns-then-stands_at-5 c = rw (sym c.stands_at.ensures ∙ c.if-stands_at.false, sym c.stands_at-2.ensures ∙ c.if-stands_at-2.false, sym c.stands_at-3.ensures ∙ c.if-stands_at-3.false, sym c.stands_at-4.ensures ∙ c.if-stands_at-4.false, sym c.stands_at-5.ensures ∙ c.if-stands_at-5.true)
-
 pub overflow_add-at : goal.overflow_add-at
-overflow_add-at c = omega (arith, stands_there c.args.s.now c.args.at (text "&#x") (sym c.stands_at-6.ensures ∙ c.if-stands_at-6.true) (omega arith))
+overflow_add-at c = omega (arith, stands_there c.args.s.now c.args.at (text "&lt;") (sym c.stands_at.ensures ∙ c.if-stands_at.true) (omega arith))
 
-pub returns-then-stands_at-6 : goal.returns-then-stands_at-6
-unfolding reference_at
-returns-then-stands_at-6 c = rw (sym c.stands_at.ensures ∙ c.if-stands_at.false, sym c.stands_at-2.ensures ∙ c.if-stands_at-2.false, sym c.stands_at-3.ensures ∙ c.if-stands_at-3.false, sym c.stands_at-4.ensures ∙ c.if-stands_at-4.false, sym c.stands_at-5.ensures ∙ c.if-stands_at-5.false, sym c.stands_at-6.ensures ∙ c.if-stands_at-6.true) c.numbered_at.ensures
+pub overflow_add-at-then-stands_at-2 : goal.overflow_add-at-then-stands_at-2
+overflow_add-at-then-stands_at-2 c = omega (arith, stands_there c.args.s.now c.args.at (text "&gt;") (sym c.stands_at-2.ensures ∙ c.if-stands_at-2.true) (omega arith))
+
+pub overflow_add-at-then-stands_at-3 : goal.overflow_add-at-then-stands_at-3
+overflow_add-at-then-stands_at-3 c = omega (arith, stands_there c.args.s.now c.args.at (text "&amp;") (sym c.stands_at-3.ensures ∙ c.if-stands_at-3.true) (omega arith))
+
+pub overflow_add-at-then-stands_at-4 : goal.overflow_add-at-then-stands_at-4
+overflow_add-at-then-stands_at-4 c = omega (arith, stands_there c.args.s.now c.args.at (text "&apos;") (sym c.stands_at-4.ensures ∙ c.if-stands_at-4.true) (omega arith))
+
+pub overflow_add-at-then-stands_at-5 : goal.overflow_add-at-then-stands_at-5
+overflow_add-at-then-stands_at-5 c = omega (arith, stands_there c.args.s.now c.args.at (text "&quot;") (sym c.stands_at-5.ensures ∙ c.if-stands_at-5.true) (omega arith))
+
+pub overflow_add-at-then-stands_at-6 : goal.overflow_add-at-then-stands_at-6
+overflow_add-at-then-stands_at-6 c = omega (arith, stands_there c.args.s.now c.args.at (text "&#x") (sym c.stands_at-6.ensures ∙ c.if-stands_at-6.true) (omega arith))
 
 pub overflow_add-at-then-stands_at-7 : goal.overflow_add-at-then-stands_at-7
 overflow_add-at-then-stands_at-7 c = omega (arith, stands_there c.args.s.now c.args.at (text "&#") (sym c.stands_at-7.ensures ∙ c.if-stands_at-7.true) (omega arith))
-
-pub returns-then-stands_at-7 : goal.returns-then-stands_at-7
-unfolding reference_at
-returns-then-stands_at-7 c = rw (sym c.stands_at.ensures ∙ c.if-stands_at.false, sym c.stands_at-2.ensures ∙ c.if-stands_at-2.false, sym c.stands_at-3.ensures ∙ c.if-stands_at-3.false, sym c.stands_at-4.ensures ∙ c.if-stands_at-4.false, sym c.stands_at-5.ensures ∙ c.if-stands_at-5.false, sym c.stands_at-6.ensures ∙ c.if-stands_at-6.false, sym c.stands_at-7.ensures ∙ c.if-stands_at-7.true) c.numbered_at-then-stands_at-7.ensures
-
-pub returns : goal.returns
-unfolding reference_at
-returns c = rw (sym c.stands_at.ensures ∙ c.if-stands_at.false, sym c.stands_at-2.ensures ∙ c.if-stands_at-2.false, sym c.stands_at-3.ensures ∙ c.if-stands_at-3.false, sym c.stands_at-4.ensures ∙ c.if-stands_at-4.false, sym c.stands_at-5.ensures ∙ c.if-stands_at-5.false, sym c.stands_at-6.ensures ∙ c.if-stands_at-6.false, sym c.stands_at-7.ensures ∙ c.if-stands_at-7.false)

@@ -7,16 +7,16 @@ use borrow.Author.Rules.{rules}
 use Rattle.meanings.proofs.put_filled.Goals as goal
 
 pub loop-i-init : goal.loop-i-init
-loop-i-init c = (search rules, search rules, rw add-zero)
+loop-i-init c = (search rules, rw add-zero)
 
 pub loop-i-preserved : goal.loop-i-preserved
 loop-i-preserved c =
     let args = c.args in
     let loop = c.loop-i in
-    (search rules, search rules, fill_more loop.d args.at loop.i args.n args.t.now _ (omega arith) c.filled_at.ensures ∙ loop.invariant.2)
+    (search rules, fill_more loop.d args.at loop.i args.n args.t.now _ (omega arith) c.filled_at.ensures ∙ loop.invariant.1)
 
 pub returns : goal.returns
 returns c =
     let args = c.args in
     let loop = c.loop-i in
-    sym (fill_ends loop.d args.at loop.i args.n args.t.now (omega arith)) ∙ loop.invariant.2
+    sym (fill_ends loop.d args.at loop.i args.n args.t.now (omega arith)) ∙ loop.invariant.1

@@ -1,26 +1,20 @@
--- `meanings::run` meets its contract: the digits passed and those left are all. Assumes nothing.
-use mathlib.Core.Path.{◌∙◌}
-use native.Mathlib.Nat.{zero-add}
-use lib.ListN.{get_or}
-use Rattle.letters.proofs.Scans.{run_on, run_stops, run_ends}
+-- `meanings::run` meets its contract: it goes up to the first byte that is no digit. Assumes nothing.
+use mathlib.Core.Path.{◌≡◌, refl, sym, ◌∙◌}
+use mathlib.Core.Bool.{true, false}
+use native.Mathlib.Numerals.{add-one}
+use Prim.Native.Nat.{ℕ}
+use borrow.Author.Rules.{rules}
+use borrow.Author.Tests.{tests}
+use Rattle.std.proofs.lemmas.Iterator.{YieldsList-from_slice, IsFirst-from_position, index_from_first}
+use Rattle.letters.specs.Places.{run}
 use Rattle.meanings.specs.Meanings.{digit}
-use Rattle.meanings.proofs.Decimals.{digit_false, digit_passed}
+use Rattle.meanings.proofs.Decimals.{digit_ascii}
 use Rattle.meanings.proofs.run.Goals as goal
 
-pub loop-i-init : goal.loop-i-init
-loop-i-init c = zero-add _
-
-pub returns-then-b : goal.returns-then-b
-returns-then-b c =
-    let t = c.args.t.now in
-    let loop = c.loop-i in
-    run_stops digit t loop.i c.loop-i-test.true (digit_false (get_or t loop.i 0) c.if-b.true) ∙ loop.invariant
-
-pub loop-i-preserved : goal.loop-i-preserved
-loop-i-preserved c =
-    let t = c.args.t.now in
-    let loop = c.loop-i in
-    run_on digit t loop.i c.loop-i-test.true (digit_passed (get_or t loop.i 0) c.if-b.false) ∙ loop.invariant
-
 pub returns : goal.returns
-returns c = run_ends digit c.args.t.now c.loop-i.i c.loop-i-test.false ∙ c.loop-i.invariant
+unfolding run
+returns c =
+    let t = c.args.t.now in
+    let first = IsFirst-from_position _ _ _ (λ (b : ℕ). digit b ≡ false) (λ (b : ℕ). digit b ≡ true) c.position.ensures.ran (YieldsList-from_slice t (cc))
+    (λ x q k. rw (← digit_ascii x.now) (search (rules, tests))) (λ x q k. (search rules, rw (← digit_ascii x.now) (search (rules, tests)))) in
+    c.unwrap_or.ensures ∙ sym (index_from_first (run digit) (λ (b : ℕ). digit b ≡ false) (λ (b : ℕ). digit b ≡ true) refl (λ x xs e. rw e) (λ x xs e. rw (e, add-one)) t c.position.result first)

@@ -1,11 +1,7 @@
 -- `messages::sum_of` meets its contract: the sum so far and that of what is left come to the whole. Assumes nothing.
-use Prim.Native.Nat.{◌-◌}
 use Rattle.tally.specs.Tally.{cents_of}
 use Rattle.messages.proofs.Amounts.{SumLeft}
 use Rattle.messages.proofs.sum_of.Given as goal
 
 abbrev pub invariant-loop-j : goal.invariant-loop-j
-invariant-loop-j l = SumLeft l.kind l.sheet l.at l.n (cents_of l.sum) l.cursor.at l.j
-
-abbrev pub decreases-loop-j : goal.decreases-loop-j
-decreases-loop-j l = l.n - l.j
+invariant-loop-j l = SumLeft l.kind l.sheet l.fn.section.at l.fn.section.number (cents_of l.sum) l.cursor.at l._j

@@ -1,27 +1,18 @@
 -- `opendays::next_open_day` meets its contract: what is left of the search finds what the whole search finds. Assumes nothing.
-use mathlib.Core.Path.{refl, sym, ap, ◌∙◌}
+use mathlib.Core.Path.{sym, ap, ◌∙◌}
 use native.Mathlib.Omega.{arith}
 use Rattle.calendar.proofs.Days.{after_later, after_date}
 use Rattle.opendays.specs.OpenDay.{open_day}
 use Rattle.opendays.proofs.Next.{next_open, next_closed, next_ends}
-use Rattle.opendays.proofs.Laws.{next_told, next_none, next_no_date}
+use Rattle.opendays.proofs.Laws.{next_told, next_none}
 use Rattle.opendays.proofs.next_open_day.Goals as goal
-
-pub returns-then-not-is_date : goal.returns-then-not-is_date
-returns-then-not-is_date c = next_no_date _ (sym c.is_date.ensures ∙ c.if-not-is_date.true)
-
-pub loop-day-init : goal.loop-day-init
-loop-day-init c = (sym c.is_date.ensures ∙ c.if-not-is_date.false, refl)
-
-pub day_after-day-requires : goal.day_after-day-requires
-day_after-day-requires c = c.loop-day.invariant.0
 
 pub returns-then-is_open : goal.returns-then-is_open
 returns-then-is_open c =
     let inv = c.loop-day.invariant in
     let same = c.day_after-day.ensures in
     let opens = sym (ap open_day same) ∙ sym c.is_open.ensures ∙ c.if-is_open.true in
-    rw same (next_told _ _ (sym c.is_date.ensures ∙ c.if-not-is_date.false)
+    rw same (next_told _ _ c.in_ok-dated.ensures
     (sym inv.1 ∙ next_open _ inv.0 c.loop-day-test.true opens))
 
 pub loop-day-smaller : goal.loop-day-smaller
@@ -39,4 +30,4 @@ loop-day-preserved c =
 pub returns : goal.returns
 returns c =
     let inv = c.loop-day.invariant in
-    next_none _ (sym c.is_date.ensures ∙ c.if-not-is_date.false) (sym inv.1 ∙ next_ends _ c.loop-day-test.false)
+    next_none _ c.in_ok-dated.ensures (sym inv.1 ∙ next_ends _ c.loop-day-test.false)

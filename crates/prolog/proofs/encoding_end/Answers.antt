@@ -8,9 +8,3 @@ pub overflow_add-result : goal.overflow_add-result
 overflow_add-result c =
     let args = c.args in
     omega (arith, utf8_there args.s.now args.at (sym c.is_utf8.ensures ∙ c.if-is_utf8.true))
-
-pub returns-then-is_utf8 : goal.returns-then-is_utf8
-returns-then-is_utf8 c = rw (sym c.is_utf8.ensures ∙ c.if-is_utf8.true)
-
-pub returns-else-is_utf8 : goal.returns-else-is_utf8
-returns-else-is_utf8 c = rw (sym c.is_utf8.ensures ∙ c.if-is_utf8.false)

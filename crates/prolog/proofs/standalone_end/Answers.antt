@@ -10,16 +10,7 @@ overflow_add-result c =
     let args = c.args in
     omega (arith, stands_there args.s.now args.at (text "yes") (sym c.stands_at.ensures ∙ c.if-stands_at.true) (omega arith))
 
-pub returns-then-stands_at : goal.returns-then-stands_at
-returns-then-stands_at c = rw (sym c.stands_at.ensures ∙ c.if-stands_at.true)
-
 pub overflow_add-result-then-stands_at-2 : goal.overflow_add-result-then-stands_at-2
 overflow_add-result-then-stands_at-2 c =
     let args = c.args in
     omega (arith, stands_there args.s.now args.at (text "no") (sym c.stands_at-2.ensures ∙ c.if-stands_at-2.true) (omega arith))
-
-pub returns-then-stands_at-2 : goal.returns-then-stands_at-2
-returns-then-stands_at-2 c = rw (sym c.stands_at.ensures ∙ c.if-stands_at.false, sym c.stands_at-2.ensures ∙ c.if-stands_at-2.true)
-
-pub returns-else-stands_at-2 : goal.returns-else-stands_at-2
-returns-else-stands_at-2 c = rw (sym c.stands_at.ensures ∙ c.if-stands_at.false, sym c.stands_at-2.ensures ∙ c.if-stands_at-2.false)

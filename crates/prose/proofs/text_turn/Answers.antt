@@ -17,19 +17,19 @@ overflow_add-at c =
     let args = c.args in
     omega (arith, stands_there args.s.now args.at section_start (sym c.starts_section.ensures ∙ c.if-not-starts_section.false) (omega arith))
 
-pub returns-in-To : goal.returns-in-To
+pub returns-in-Ok : goal.returns-in-Ok
 unfolding text_turn
-returns-in-To c =
+returns-in-Ok c =
     let byte = c.byte_at-b in
     let starts = sym c.starts_section.ensures ∙ c.if-not-starts_section.false in
-    rw (← byte.ensures, eq-eqb byte.result 60 c.if-b-eq60.true, starts, ← c.section_end.ensures, c.in-To.is)
+    rw (← byte.ensures, eq-eqb byte.result 60 c.if-b-eq60.true, starts, ← c.section_end.ensures, c.in-Ok.is)
 
-pub returns-in-Broken : goal.returns-in-Broken
+pub returns-in-Err : goal.returns-in-Err
 unfolding text_turn
-returns-in-Broken c =
+returns-in-Err c =
     let byte = c.byte_at-b in
     let starts = sym c.starts_section.ensures ∙ c.if-not-starts_section.false in
-    rw (← byte.ensures, eq-eqb byte.result 60 c.if-b-eq60.true, starts, ← c.section_end.ensures, c.in-Broken.is)
+    rw (← byte.ensures, eq-eqb byte.result 60 c.if-b-eq60.true, starts, ← c.section_end.ensures, c.in-Err.is)
 
 pub returns-then-b-eq38 : goal.returns-then-b-eq38
 unfolding text_turn

@@ -1,6 +1,5 @@
 -- `records::put_header` meets its contract: seven fields, one after the other. Assumes nothing.
 use mathlib.Core.Path.{sym}
-use native.Mathlib.Omega.{arith}
 use lib.ListN.{get_or}
 use Rattle.wire.proofs.Stores.{sets_out}
 use Rattle.records.specs.Records.{header_of}
@@ -11,10 +10,6 @@ pub returns-then-d-at : goal.returns-then-d-at
 returns-then-d-at c =
     let args = c.args in
     sym (sets_out args.d.now args.at (header_of args.s.now (λ k. get_or args.places.now k 0)) c.if-d-at.true)
-
-pub overflow_add-at-6 : goal.overflow_add-at-6
-overflow_add-at-6 c =
-    omega (arith, c.if-d-at.false, c.well_formed)
 
 pub returns : goal.returns
 returns c =

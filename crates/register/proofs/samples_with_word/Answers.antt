@@ -19,12 +19,12 @@ pub overflow_add-n : goal.overflow_add-n
 overflow_add-n c = omega (arith, one c.has_word.result, c.loop-k.invariant)
 
 pub overflow_add-k : goal.overflow_add-k
-overflow_add-k c = omega (arith, behind _ _ _ _ c.least-k.ensures c.loop-k-test.true)
+overflow_add-k c = omega (arith, behind _ _ _ _ c.min-k.ensures c.loop-k-test.true)
 
 pub loop-k-smaller : goal.loop-k-smaller
-loop-k-smaller c = omega (arith, behind _ _ _ _ c.least-k.ensures c.loop-k-test.true)
+loop-k-smaller c = omega (arith, behind _ _ _ _ c.min-k.ensures c.loop-k-test.true)
 
 pub loop-k-preserved : goal.loop-k-preserved
 loop-k-preserved c =
-    let next = behind _ _ _ _ c.least-k.ensures c.loop-k-test.true in
+    let next = behind _ _ _ _ c.min-k.ensures c.loop-k-test.true in
     (next.1, omega (arith, next.0, one c.has_word.result, c.loop-k.invariant))

@@ -6,7 +6,6 @@ use mathlib.Core.List.{List}
 use Prim.Native.Nat.{ℕ, ◌+◌, ◌*◌, ◌≤◌}
 use native.Mathlib.Omega.{arith}
 use Rattle.register.proofs.Search.{stands_left, stands_ends, turn_finds, turn_goes_on}
-use borrow.Author.Rules.{rules}
 use Rattle.register.proofs.stands_by_turns.Invariants.{turn}
 use Rattle.register.proofs.stands_by_turns.Goals as goal
 
@@ -24,14 +23,14 @@ returns-then-from-to c =
     sym (stands_ends args.register.now args.key.now args.to args.from (omega arith))
 
 pub loop-i-init : goal.loop-i-init
-loop-i-init c = (search rules, begun _ _ _ _)
+loop-i-init c = begun _ _ _ _
 
 pub returns-then-stands_between : goal.returns-then-stands_between
 returns-then-stands_between c =
     let args = c.args in
     let loop = c.loop-i in
     let at = args.from + turn * loop.i in
-    sym (turn_finds args.register.now args.key.now args.to at _ _ c.stands_between.ensures (omega arith) (omega arith) c.if-stands_between.true) ∙ loop.invariant.1
+    sym (turn_finds args.register.now args.key.now args.to at _ _ c.stands_between.ensures (omega arith) (omega arith) c.if-stands_between.true) ∙ loop.invariant
 
 pub loop-i-preserved : goal.loop-i-preserved
 loop-i-preserved c =
@@ -39,9 +38,9 @@ loop-i-preserved c =
     let loop = c.loop-i in
     let at = args.from + turn * loop.i in
     let next : args.from + turn * (loop.i + 1) ≡ at + turn = omega arith in
-    (search rules, rw next (turn_goes_on args.register.now args.key.now args.to at _ _ c.stands_between.ensures (omega arith) (omega arith) c.if-stands_between.false ∙ loop.invariant.1))
+    rw next (turn_goes_on args.register.now args.key.now args.to at _ _ c.stands_between.ensures (omega arith) (omega arith) c.if-stands_between.false ∙ loop.invariant)
 
 pub returns : goal.returns
 returns c =
     let loop = c.loop-i in
-    rest _ _ _ _ _ loop.i _ _ c.stands_between-2.ensures c.loop-i-test.false loop.invariant.0 loop.invariant.1
+    rest _ _ _ _ _ loop.i _ _ c.stands_between-2.ensures c.loop-i-test.false loop.auto.i-end loop.invariant

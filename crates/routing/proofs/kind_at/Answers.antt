@@ -6,6 +6,3 @@ use Rattle.routing.proofs.kind_at.Goals as goal
 
 pub returns-then-rows-i : goal.returns-then-rows-i
 returns-then-rows-i c = sym (kind_past c.args.table.now c.args.i (omega arith))
-
-pub returns : goal.returns
-returns c = c.u8_at.ensures

@@ -1,9 +1,10 @@
 -- `routing::lookup` meets its contract: each answer is that of the way that led to it. Assumes nothing.
-use mathlib.Core.Path.{sym, ap, ◌∙◌}
-use native.Mathlib.Nat.{lt_of_lt_of_le}
-use Rattle.routing.specs.Lookup.{option_of, reachable, row_is}
-use Rattle.routing.specs.declared.Found.{Found}
-use Rattle.routing.proofs.Laws.{lookup_date, lookup_table, lookup_bic, lookup_row, found_below}
+use mathlib.Core.Path.{◌≡◌, sym, ◌∙◌}
+use Prim.Native.Nat.{ℕ}
+use borrow.Author.Rules.{rules}
+use Rattle.std.specs.Option.{option_map}
+use Rattle.routing.specs.declared.Row.{Row}
+use Rattle.routing.proofs.Laws.{lookup_date, lookup_table, lookup_bic, lookup_row, answer_told}
 use Rattle.routing.proofs.lookup.Goals as goal
 
 pub returns-then-not-is_date : goal.returns-then-not-is_date
@@ -21,26 +22,14 @@ returns-then-bic-ne-BIC_WIDTH c =
     let args = c.args in
     record { is = lookup_bic args.date args.table.now args.bic.now (sym c.is_date.ensures ∙ c.if-not-is_date.false) (sym c.well_formed-2.ensures.is ∙ c.if-not-well_formed.false) c.if-bic-ne-BIC_WIDTH.true; within = tt; small = tt }
 
-pub returns-in-Row : goal.returns-in-Row
-returns-in-Row c =
+pub returns : goal.returns
+returns c =
     let args = c.args in
-    let below = found_below args.table.now _ _ c.in-Row.is c.route-found.ensures.within in
-    record {
-      is = ap (row_is c.in-Row.i) (c.reachable-reached.ensures ∙ ap (λ (f : Found). reachable args.table.now (option_of f)) c.in-Row.is)
-          ∙ lookup_row args.date args.table.now args.bic.now
-          (sym c.is_date.ensures ∙ c.if-not-is_date.false) (sym c.well_formed-2.ensures.is ∙ c.if-not-well_formed.false)
-          c.if-bic-ne-BIC_WIDTH.false _ (ap option_of (sym c.in-Row.is) ∙ c.route-found.ensures.is);
-      within = below;
-      small = lt_of_lt_of_le below (c.well_formed-2.ensures.formed (c.if-not-well_formed.false)).few;
-    }
-
-pub returns-in-Nothing : goal.returns-in-Nothing
-returns-in-Nothing c =
-    let args = c.args in
-    record {
-      is = lookup_row args.date args.table.now args.bic.now
-          (sym c.is_date.ensures ∙ c.if-not-is_date.false) (sym c.well_formed-2.ensures.is ∙ c.if-not-well_formed.false)
-          c.if-bic-ne-BIC_WIDTH.false _ (ap option_of (sym c.in-Nothing.is) ∙ c.route-found.ensures.is);
-      within = tt;
-      small = tt;
-    }
+    let found = c.route-found.ensures in
+    let formed = c.well_formed-2.ensures.formed c.if-not-well_formed.false in
+    let row : ℕ → Row = λ i. record { place = i; reachable = c.reachable-reachable.result } in
+    let mapped : c.map.result ≡ option_map row c.route-found.result = search rules in
+    rw mapped (answer_told args.table.now _ formed _ _
+    (lookup_row args.date args.table.now args.bic.now
+    (sym c.is_date.ensures ∙ c.if-not-is_date.false) (sym c.well_formed-2.ensures.is ∙ c.if-not-well_formed.false) c.if-bic-ne-BIC_WIDTH.false _ found.is)
+    found.within c.reachable-reachable.ensures)

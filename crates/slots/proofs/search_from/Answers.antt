@@ -1,5 +1,5 @@
 -- `slots::search_from` meets its contract: the slots from the start on, then those before it. Assumes nothing.
-use mathlib.Core.Path.{refl, sym, ap, ◌∙◌}
+use mathlib.Core.Path.{sym, ap, ◌∙◌}
 use native.Mathlib.Omega.{arith}
 use Rattle.slots.specs.Slots.{start_at, stops_at}
 use Rattle.slots.specs.Stored.{digits, key_in}
@@ -7,22 +7,13 @@ use Rattle.slots.proofs.Turns.{stop_later}
 use Rattle.slots.proofs.Searches.{from_within_lem, stops_near, stops_far, stops_nowhere}
 use Rattle.slots.proofs.search_from.Goals as goal
 
-pub loop-at-init : goal.loop-at-init
-loop-at-init c = (omega arith, refl)
-
-pub slot_at-name-requires : goal.slot_at-name-requires
-slot_at-name-requires c = omega (arith, c.slot_count-n.ensures, c.loop-at-test.true)
-
-pub overflow_sub-result : goal.overflow_sub-result
-overflow_sub-result c = c.loop-at.invariant.0
-
 pub returns-then-stops_at : goal.returns-then-stops_at
 returns-then-stops_at c =
     let args = c.args in
     let loop = c.loop-at in
     let count = c.slot_count-n.ensures in
     stops_near (stops_at (key_in args.layout args.records.now) args.bound args.looked.now) args.index.now (digits args.looked.now) _ args.from count
-    (c.requires.1 ∙ ap (start_at (digits args.looked.now)) (sym count)) loop.at loop.invariant.1 _ c.loop-at-test.true c.slot_at-name.ensures
+    (c.requires.1 ∙ ap (start_at (digits args.looked.now)) (sym count)) loop.at loop.invariant _ c.loop-at-test.true c.slot_at-name.ensures
     (sym c.stops_at.ensures ∙ c.if-stops_at.true)
 
 pub loop-at-preserved : goal.loop-at-preserved
@@ -30,10 +21,7 @@ loop-at-preserved c =
     let args = c.args in
     let loop = c.loop-at in
     let on = ap (stops_at (key_in args.layout args.records.now) args.bound args.looked.now) (sym c.slot_at-name.ensures) ∙ sym c.stops_at.ensures ∙ c.if-stops_at.false in
-    (omega (arith, loop.invariant.0), stop_later (stops_at (key_in args.layout args.records.now) args.bound args.looked.now) args.index.now _ loop.at c.loop-at-test.true on ∙ loop.invariant.1)
-
-pub loop-round-init : goal.loop-round-init
-loop-round-init c = refl
+    stop_later (stops_at (key_in args.layout args.records.now) args.bound args.looked.now) args.index.now _ loop.at c.loop-at-test.true on ∙ loop.invariant
 
 pub slot_at-name-requires-in-loop-round : goal.slot_at-name-requires-in-loop-round
 slot_at-name-requires-in-loop-round c =
@@ -57,7 +45,7 @@ returns-then-stops_at-2 c =
     let second = c.loop-round in
     let count = c.slot_count-n.ensures in
     stops_far (stops_at (key_in args.layout args.records.now) args.bound args.looked.now) args.index.now (digits args.looked.now) _ args.from count
-    (c.requires.1 ∙ ap (start_at (digits args.looked.now)) (sym count)) loop.at loop.invariant.1 c.loop-at-test.false second.round second.invariant _
+    (c.requires.1 ∙ ap (start_at (digits args.looked.now)) (sym count)) loop.at loop.invariant c.loop-at-test.false second.round second.invariant _
     c.loop-round-test.true c.slot_at-name-in-loop-round.ensures (sym c.stops_at-in-loop-round.ensures ∙ c.if-stops_at-2.true)
 
 pub loop-round-preserved : goal.loop-round-preserved
@@ -74,4 +62,4 @@ returns c =
     let second = c.loop-round in
     let count = c.slot_count-n.ensures in
     stops_nowhere (stops_at (key_in args.layout args.records.now) args.bound args.looked.now) args.index.now (digits args.looked.now) _ args.from count
-    (c.requires.1 ∙ ap (start_at (digits args.looked.now)) (sym count)) loop.at loop.invariant.1 c.loop-at-test.false second.round second.invariant c.loop-round-test.false
+    (c.requires.1 ∙ ap (start_at (digits args.looked.now)) (sym count)) loop.at loop.invariant c.loop-at-test.false second.round second.invariant c.loop-round-test.false

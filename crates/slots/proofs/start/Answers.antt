@@ -5,6 +5,3 @@ use Rattle.slots.proofs.start.Goals as goal
 
 pub start_from-requires : goal.start_from-requires
 start_from-requires c = record { small = c.requires; inside = omega arith; rest = start_empty c.args.n }
-
-pub returns : goal.returns
-returns c = c.start_from.ensures

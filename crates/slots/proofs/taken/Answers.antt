@@ -1,15 +1,9 @@
 -- `slots::taken` meets its contract: what was counted and what is left come to the whole. Assumes nothing.
 use mathlib.Core.Path.{sym, ◌∙◌}
 use native.Mathlib.Omega.{arith}
-use Rattle.slots.proofs.Turns.{taken_starts, taken_not, taken_one, taken_ends}
+use Rattle.slots.proofs.Turns.{taken_not, taken_one, taken_ends}
 use Rattle.slots.proofs.taken.Goals as goal
 use Rattle.slots.proofs.taken.Goals.{then-slot_at-ne0, else-slot_at-ne0}
-
-pub loop-i-init : goal.loop-i-init
-loop-i-init c = (omega arith, omega arith, omega (arith, taken_starts c.args.index.now _ c.slot_count-n.ensures))
-
-pub slot_at-requires : goal.slot_at-requires
-slot_at-requires c = omega (arith, c.slot_count-n.ensures, c.loop-i-test.true)
 
 pub loop-i-preserved : goal.loop-i-preserved
 loop-i-preserved c =
@@ -19,9 +13,9 @@ loop-i-preserved c =
     let none = taken_not args.index.now _ loop.i c.loop-i-test.true in
     let holds = c.slot_at.ensures in
     elim c.if-slot_at-ne0.branch [
-      | then-slot_at-ne0 w ↦ (omega arith, omega arith, omega (arith, loop.invariant.2, w.t-is, one (λ z. w.if-slot_at-ne0.true (holds ∙ z))))
-      | else-slot_at-ne0 w ↦ (omega arith, omega arith, omega (arith, loop.invariant.2, w.t-is, none (sym holds ∙ w.if-slot_at-ne0.false)))
+      | then-slot_at-ne0 w ↦ (omega arith, omega (arith, loop.invariant.1, w.t-is, one (λ z. w.if-slot_at-ne0.true (holds ∙ z))))
+      | else-slot_at-ne0 w ↦ (omega arith, omega (arith, loop.invariant.1, w.t-is, none (sym holds ∙ w.if-slot_at-ne0.false)))
     ]
 
 pub returns : goal.returns
-returns c = omega (arith, c.loop-i.invariant.2, taken_ends c.args.index.now _ c.loop-i.i c.loop-i-test.false)
+returns c = omega (arith, c.loop-i.invariant.1, taken_ends c.args.index.now _ c.loop-i.i c.loop-i-test.false)

@@ -2,7 +2,6 @@
 use mathlib.Core.Path.{sym}
 use Prim.Native.Nat.{◌<◌}
 use native.Mathlib.Omega.{arith}
-use borrow.Author.Tests.{eq-eqb, ne_eqb}
 use Rattle.letters.proofs.Characters.{width_there}
 use Rattle.tags.proofs.after_character.Goals as goal
 
@@ -11,9 +10,3 @@ overflow_add-result c =
     let args = c.args in
     let some : 0 < c.width_at-width.result = omega (arith, c.if-width-eq0.false) in
     omega (arith, width_there args.s.now args.at c.width_at-width.result (sym c.width_at-width.ensures) some)
-
-pub returns-then-width-eq0 : goal.returns-then-width-eq0
-returns-then-width-eq0 c = rw (← c.width_at-width.ensures, eq-eqb _ _ c.if-width-eq0.true)
-
-pub returns-else-width-eq0 : goal.returns-else-width-eq0
-returns-else-width-eq0 c = rw (← c.width_at-width.ensures, ne_eqb _ _ c.if-width-eq0.false)

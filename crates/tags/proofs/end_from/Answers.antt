@@ -2,8 +2,8 @@
 use mathlib.Core.Path.{◌≡◌, sym, ◌∙◌}
 use Prim.Native.Nat.{◌+◌}
 use native.Mathlib.Omega.{arith}
+use borrow.Author.Rules.{rules}
 use Rattle.letters.specs.Places.{byte_at}
-use Rattle.letters.specs.declared.Reach.TheVariants.{To, Broken}
 use Rattle.letters.proofs.Scans.{byte_there}
 use Rattle.tags.proofs.Tags.{end_unopened, end_unslashed, end_named}
 use Rattle.tags.proofs.end_from.Goals as goal
@@ -41,15 +41,16 @@ name_again-requires c =
     let slash : byte_at c.args.s.now (c.args.at + 1) ≡ 47 = sym c.byte_at-2.ensures ∙ c.if-byte_at-ne47.false in
     record { to_value = c.requires; at_in_bounds = omega (arith, byte_there c.args.s.now (c.args.at + 1) (omega arith)) }
 
-pub returns-in-To : goal.returns-in-To
-returns-in-To c =
+pub returns-in_err-name_again : goal.returns-in_err-name_again
+returns-in_err-name_again c =
+    let told = end_named c.args.s.now c.args.start c.args.at
+    (sym c.byte_at.ensures ∙ c.if-byte_at-ne60.false) (sym c.byte_at-2.ensures ∙ c.if-byte_at-ne47.false)
+    c.args.to c.requires _ (sym c.name_again.ensures ∙ c.in_err-name_again.was) in
+    search rules
+
+pub returns : goal.returns
+returns c =
     c.end_closed.ensures
     ∙ end_named c.args.s.now c.args.start c.args.at
     (sym c.byte_at.ensures ∙ c.if-byte_at-ne60.false) (sym c.byte_at-2.ensures ∙ c.if-byte_at-ne47.false)
-    c.args.to c.requires (To c.in-To.m) (sym c.name_again.ensures ∙ c.in-To.is)
-
-pub returns-in-Broken : goal.returns-in-Broken
-returns-in-Broken c =
-    end_named c.args.s.now c.args.start c.args.at
-    (sym c.byte_at.ensures ∙ c.if-byte_at-ne60.false) (sym c.byte_at-2.ensures ∙ c.if-byte_at-ne47.false)
-    c.args.to c.requires (Broken c.in-Broken.p) (sym c.name_again.ensures ∙ c.in-Broken.is)
+    c.args.to c.requires _ (sym c.name_again.ensures ∙ c.in_ok-name_again.was)

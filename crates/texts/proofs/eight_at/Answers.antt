@@ -1,9 +1,7 @@
--- `texts::eight_at` meets its contract: a word of two halves. Assumes nothing.
-use native.Mathlib.Omega.{arith}
-use Rattle.texts.proofs.Words.{low_joined}
+-- `texts::eight_at` meets its contract: eight bytes, lowest first. Assumes nothing.
+use mathlib.Core.Path.{◌∙◌}
+use Rattle.texts.proofs.Words.{low_eight}
 use Rattle.texts.proofs.eight_at.Goals as goal
 
 pub returns : goal.returns
-returns c =
-    let args = c.args in
-    low_joined args.s.now args.at 4 4 _ _ (omega arith) c.four_at.ensures.0 c.four_at-2.ensures.0
+returns c = c.from_le_bytes.ensures ∙ low_eight _ _ c.requires

@@ -1,12 +1,8 @@
 -- `wording::kept` meets its contract: the spaces passed so far change nothing of what is left. Assumes nothing.
 use mathlib.Core.Path.{◌≡◌}
-use Prim.Native.Nat.{◌≤◌}
-use lib.ListN.{length, take}
+use lib.ListN.{take}
 use Rattle.wording.specs.Wording.{kept}
 use Rattle.wording.proofs.kept.Given as goal
 
 abbrev pub invariant-loop-n : goal.invariant-loop-n
-invariant-loop-n l = (l.n ≤ length l.s) × (kept (take l.n l.s) ≡ kept l.s)
-
-abbrev pub decreases-loop-n : goal.decreases-loop-n
-decreases-loop-n l = l.n
+invariant-loop-n l = kept (take l.n l.s) ≡ kept l.s

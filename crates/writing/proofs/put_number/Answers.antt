@@ -2,7 +2,6 @@
 -- Assumes nothing.
 use mathlib.Core.Path.{sym, ◌∙◌}
 use native.Mathlib.Omega.{arith}
-use lib.ListN.{length-set}
 use Rattle.wire.proofs.Stores.{number_last, number_last_out, number_ends}
 use Rattle.writing.proofs.put_number.Goals as goal
 use Rattle.writing.proofs.put_number.Goals.{then-i-room, else-i-room}
@@ -13,17 +12,11 @@ loop-i-preserved c =
     let loop = c.loop-i in
     let left = c.loop-i-test.true in
     elim c.if-i-room.branch [
-      | then-i-room w ↦ (
-        simp (w.d-is, length-set) loop.invariant.0,
-        rw w.d-is (number_last loop.d args.at loop.i loop.rest left ∙ loop.invariant.1),
-      )
-      | else-i-room w ↦ (
-        rw w.d-is loop.invariant.0,
-        rw w.d-is (number_last_out loop.d args.at loop.i loop.rest left (omega arith) ∙ loop.invariant.1),
-      )
+      | then-i-room w ↦ rw w.d-is (number_last loop.d args.at loop.i loop.rest left ∙ loop.invariant)
+      | else-i-room w ↦ rw w.d-is (number_last_out loop.d args.at loop.i loop.rest left (omega arith) ∙ loop.invariant)
     ]
 
 pub returns : goal.returns
 returns c =
     let loop = c.loop-i in
-    sym (number_ends loop.d c.args.at loop.i loop.rest c.loop-i-test.false) ∙ loop.invariant.1
+    sym (number_ends loop.d c.args.at loop.i loop.rest c.loop-i-test.false) ∙ loop.invariant

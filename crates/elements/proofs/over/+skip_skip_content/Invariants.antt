@@ -12,8 +12,8 @@ decreases-skip l = 2 * l.depth
 abbrev pub decreases-skip_content : goal.decreases-skip_content
 decreases-skip_content l = 2 * l.depth + 1
 
-abbrev pub invariant-skip_content-loop-p : goal.invariant-skip_content-loop-p
-invariant-skip_content-loop-p l = step_of (content_at l.depth l.s other l.i) ≡ step_of (content_at l.depth l.s other l.at)
+abbrev pub invariant-skip_content-loop-j : goal.invariant-skip_content-loop-j
+invariant-skip_content-loop-j l = step_of (content_at l.depth l.s other l.i) ≡ step_of (content_at l.depth l.s other l.at)
 
-abbrev pub decreases-skip_content-loop-p : goal.decreases-skip_content-loop-p
-decreases-skip_content-loop-p l = length l.s - l.i
+abbrev pub decreases-skip_content-loop-j : goal.decreases-skip_content-loop-j
+decreases-skip_content-loop-j l = length l.s - l.i

@@ -1,15 +1,10 @@
--- `paths::children::in_returns` meets its contract. Assumes nothing.
-use mathlib.Core.Path.{refl, sym, ◌∙◌}
+-- `paths::children::in_returns` meets its contract: the commoner name is asked for first. Assumes nothing.
+use mathlib.Core.Path.{refl, ◌∙◌}
 use Rattle.wire.specs.Field.{text, same}
-use Rattle.paths.specs.Roles as roles
 use Rattle.paths.specs.Table.{among, child_role}
-use Rattle.paths.proofs.Rows.{named}
+use Rattle.paths.proofs.Rows.{commoner_first}
 use Rattle.paths.proofs.children.in_returns.Goals as goal
 
-pub returns-then-same : goal.returns-then-same
-unfolding child_role among same
-returns-then-same c = named roles.returns c.args.name.now (text "TxInf") c.same.ensures c.if-same.true refl
-
 pub returns : goal.returns
-unfolding child_role among
-returns c = c.only.ensures ∙ sym (rw (← c.same.ensures, c.if-same.false))
+unfolding child_role among same
+returns c = c.either.ensures ∙ commoner_first c.args.name.now (text "TxInf") (text "GrpHdr") _ _ _ refl

@@ -12,6 +12,3 @@ pub overflow_add-result-2 : goal.overflow_add-result-2
 overflow_add-result-2 c =
     let a = c.args in
     rw c.message_width.ensures (omega (arith, messages_small a.kind a.n c.ranges.n.fits))
-
-pub returns : goal.returns
-returns c = rw c.message_width.ensures

@@ -6,6 +6,3 @@ pub returns-then-byte_at-eq62 : goal.returns-then-byte_at-eq62
 returns-then-byte_at-eq62 c =
     let args = c.args in
     ended_here args.s.now args.at (cc)
-
-pub returns : goal.returns
-returns c = cc

@@ -1,6 +1,5 @@
 -- `tags::twice::alike` meets its contract: names of which the marks differ do. Assumes nothing.
 use mathlib.Core.Path.{sym, ◌∙◌}
-use Rattle.wire.specs.Field.{same}
 use Rattle.tags.proofs.Blocks.{unmarked}
 use Rattle.tags.proofs.twice.alike.Goals as goal
 

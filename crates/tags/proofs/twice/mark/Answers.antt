@@ -7,14 +7,14 @@ use Rattle.tags.proofs.Blocks.{mark_more}
 use Rattle.tags.proofs.twice.mark.Goals as goal
 
 pub overflow_cast-v : goal.overflow_cast-v
-overflow_cast-v c = omega (arith, c.type_inv.name c.loop-i.i)
+overflow_cast-v c = omega (arith, c.type_inv.name c.loop-b.b-index)
 
 pub overflow_add-v : goal.overflow_add-v
-overflow_add-v c = omega (arith, c.type_inv.name c.loop-i.i)
+overflow_add-v c = omega (arith, c.type_inv.name c.loop-b.b-index)
 
-pub loop-i-preserved : goal.loop-i-preserved
-loop-i-preserved c = (omega arith, mark_more _ _ _ c.loop-i-test.true ∙ c.loop-i.invariant.1)
+pub loop-b-preserved : goal.loop-b-preserved
+loop-b-preserved c = mark_more _ _ _ c.loop-b-test.true ∙ c.loop-b.invariant
 
 pub returns : goal.returns
 unfolding mark_from
-returns c = (rw (drop_of_length-le _ c.loop-i-test.false) at c.loop-i.invariant.1)
+returns c = (rw (drop_of_length-le _ c.loop-b-test.false) at c.loop-b.invariant)

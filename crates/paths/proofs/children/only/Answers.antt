@@ -1,8 +1,0 @@
--- `paths::children::only` meets its contract. Assumes nothing.
-use Rattle.paths.proofs.children.only.Goals as goal
-
-pub returns-then-same : goal.returns-then-same
-returns-then-same c = rw (← c.same.ensures, c.if-same.true)
-
-pub returns-else-same : goal.returns-else-same
-returns-else-same c = rw (← c.same.ensures, c.if-same.false)

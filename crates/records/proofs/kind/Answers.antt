@@ -1,8 +1,0 @@
--- `records::kind` meets its contract. Assumes nothing.
-use Rattle.records.proofs.kind.Goals as goal
-
-pub returns-then-is_there : goal.returns-then-is_there
-returns-then-is_there c = rw (← c.is_there.ensures, c.if-is_there.true)
-
-pub returns-else-is_there : goal.returns-else-is_there
-returns-else-is_there c = rw (← c.is_there.ensures, c.if-is_there.false)

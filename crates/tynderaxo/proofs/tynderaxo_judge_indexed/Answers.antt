@@ -1,5 +1,0 @@
--- `tynderaxo::tynderaxo_judge_indexed` meets its contract: it passes on what the judge says. Assumes nothing.
-use Rattle.tynderaxo.proofs.tynderaxo_judge_indexed.Goals as goal
-
-pub returns : goal.returns
-returns c = rw (c.number_of.ensures, c.length_of.ensures) c.judge_indexed-told.ensures
