@@ -1,6 +1,7 @@
 // The bulks of a file, one after the other.
 ghost use Rattle.std.specs.Prelude.{◌≡◌, ◌+◌};
 ghost use Rattle.index.specs.Ready.{Ready, AnewReady};
+ghost use Rattle.directory.specs.Ready.{Made};
 ghost use Rattle.tally.specs.Tally.{totals_of};
 ghost use Rattle.messages.specs.Ready.{state_of, SectionReady};
 ghost use Rattle.judging.specs.Judgement.{bulk_outcome};
@@ -73,7 +74,7 @@ fn judge_bulk(
     section: Section,
     places: Places,
 ) -> u64
-    requires { (HeaderReady asked.now.sheet.now asked.now.table.now positions.old header) × (SectionReady asked.now.sheet.now header.kind section) × (BulkSpace report.old section.number places) × (Ready indexed register.old index.old (section.number + 1)) }
+    requires { (HeaderReady asked.now.sheet.now asked.now.table.now positions.old header) × (SectionReady asked.now.sheet.now header.kind section) × (BulkSpace report.old section.number places) × (Ready indexed register.old index.old (section.number + 1)) × (Made asked.now.terms.date asked.now.table.now asked.now.directory.now) }
     ensures { BulkTold asked.now.terms asked.now.table.now indexed (bulk_in asked.now.sheet.now header section) (state_of register.old positions.old) index.old report.old places register.new index.new positions.new report.new result }
 {
     let terms = asked.terms;
@@ -131,7 +132,7 @@ pub(crate) fn judge_bulks(
     report: &mut [u8],
     contents: Contents,
 ) -> u64
-    requires { (BulksReady asked.now.sheet.now asked.now.table.now positions.old report.old contents) × (Ready indexed register.old index.old (contents.bulks + contents.messages)) }
+    requires { (BulksReady asked.now.sheet.now asked.now.table.now positions.old report.old contents) × (Ready indexed register.old index.old (contents.bulks + contents.messages)) × (Made asked.now.terms.date asked.now.table.now asked.now.directory.now) }
     ensures { BulksTold asked.now.terms asked.now.sheet.now asked.now.table.now indexed contents.bulks (state_of register.old positions.old) index.old report.old register.new index.new positions.new report.new result }
 {
     let sheet = asked.sheet;

@@ -7,6 +7,7 @@ ghost use Rattle.std.specs.Prelude.{◌≡◌, cond, ◌*◌, ◌≤◌, length}
 ghost use Rattle.routing.specs.Lookup.{option_of};
 ghost use Rattle.sheet.specs.Reading.{header_in, message_in};
 ghost use Rattle.index.specs.Ready.{Ready};
+ghost use Rattle.directory.specs.Ready.{Made};
 ghost use Rattle.positions.specs.Positions.{pays};
 ghost use Rattle.tally.specs.Tally.{cents_of, totals_of, with_accepted, with_rejected};
 ghost use Rattle.report.specs.Line.{message_line_width};
@@ -118,7 +119,7 @@ fn judge_message(
     message: Message,
     to: usize,
 ) -> Verdict
-    requires { (RulingReady asked.now.terms asked.now.sheet.now asked.now.table.now positions.old ruling) × (MessageReady asked.now.sheet.now message out.old to) × (Ready indexed register.old index.old 1) }
+    requires { (RulingReady asked.now.terms asked.now.sheet.now asked.now.table.now positions.old ruling) × (MessageReady asked.now.sheet.now message out.old to) × (Ready indexed register.old index.old 1) × (Made asked.now.terms.date asked.now.table.now asked.now.directory.now) }
     ensures { MessageTold asked.now.terms asked.now.table.now (header_in asked.now.sheet.now ruling.header) ruling.fallen indexed (message_in asked.now.sheet.now message) (state_of register.old positions.old) index.old to out.old register.new index.new positions.new out.new result }
 {
     let Ruling {
@@ -163,7 +164,7 @@ pub fn judge_messages(
     ruling: Ruling,
     section: Section,
 ) -> Counts
-    requires { (RulingReady asked.now.terms asked.now.sheet.now asked.now.table.now positions.old ruling) × (SectionReady asked.now.sheet.now ruling.header.kind section) × (message_line_width * section.number ≤ length out.old) × (Ready indexed register.old index.old section.number) }
+    requires { (RulingReady asked.now.terms asked.now.sheet.now asked.now.table.now positions.old ruling) × (SectionReady asked.now.sheet.now ruling.header.kind section) × (message_line_width * section.number ≤ length out.old) × (Ready indexed register.old index.old section.number) × (Made asked.now.terms.date asked.now.table.now asked.now.directory.now) }
     ensures { MessagesTold asked.now.terms asked.now.table.now (header_in asked.now.sheet.now ruling.header) ruling.fallen indexed (messages_of asked.now.sheet.now ruling.header.kind section) (state_of register.old positions.old) index.old out.old register.new index.new positions.new out.new result }
 {
     let sheet = asked.sheet;

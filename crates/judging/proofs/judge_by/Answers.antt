@@ -23,14 +23,8 @@ judge_bulks-slots-requires c =
     let told = asked_told a.indexed _ _ call check.result c.then_some-lent.ensures check.ensures in (
       bulks_ready a.indexed call a.index.now check.result c.in_ok-contents.contents c.in_ok-contents.was told _ c.put_count.auto.out,
       entries_ready a.indexed call a.index.now check.result c.in_ok-contents.contents c.in_ok-contents.was told,
+      record { formed = table_formed a.indexed call a.index.now check.result c.in_ok-contents.contents c.in_ok-contents.was told; is = c.make.ensures },
     )
-
-pub invariant_of-asked : goal.invariant_of-asked
-invariant_of-asked c =
-    let a = c.args in
-    let call = call_of a.terms a.sheet.now a.table.now a.register.now a.positions.now a.report.now in
-    let told = asked_told a.indexed _ _ call c.check.result c.then_some-lent.ensures c.check.ensures in
-    record { made = record { formed = table_formed a.indexed call a.index.now c.check.result c.in_ok-contents.contents c.in_ok-contents.was told; is = c.make.ensures } }
 
 pub space_for-length-requires : goal.space_for-length-requires
 space_for-length-requires c =

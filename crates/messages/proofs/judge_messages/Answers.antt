@@ -19,6 +19,7 @@ judge_message-verdict-requires c =
           (message_within a.asked.now.terms a.asked.now.table.now (header_in a.asked.now.sheet.now a.ruling.header) a.ruling.fallen a.indexed a.ruling.header.kind a.asked.now.sheet.now a.section.at a.section.number (state_of a.register.now a.positions.now) a.index.now a.out.now l.register l.index l.positions l.out (totals_of l.tally) l.slots l.cursor.at l.j l.invariant c.requires.1 low)
           (rw c.line_place-to.ensures (line_space a.asked.now.terms a.asked.now.table.now (header_in a.asked.now.sheet.now a.ruling.header) a.ruling.fallen a.indexed a.ruling.header.kind a.asked.now.sheet.now a.section.at a.section.number (state_of a.register.now a.positions.now) a.index.now a.out.now l.register l.index l.positions l.out (totals_of l.tally) l.slots l.cursor.at l.j l.invariant c.requires.2 low)),
       search rules,
+      c.requires.4,
     )
 
 pub overflow_add-slots : goal.overflow_add-slots

@@ -27,6 +27,7 @@ judge_bulk-slots-requires c =
       section_ready a.asked.now.terms a.asked.now.table.now a.asked.now.sheet.now a.indexed a.contents.bulks (state_of a.register.now a.positions.now) a.index.now a.report.now l.register l.index l.positions l.report l.slots l.walk.heads.at l.walk.bodies.at l.places.line l.places.section l._k l.invariant low read.result read.ensures,
       bulk_space a.asked.now.terms a.asked.now.table.now a.asked.now.sheet.now a.indexed a.contents.bulks (state_of a.register.now a.positions.now) a.index.now a.report.now l.register l.index l.positions l.report l.slots l.walk.heads.at l.walk.bodies.at l.places.line l.places.section l._k l.invariant low read.result read.ensures l.places refl refl,
       bulk_places a.asked.now.terms a.asked.now.table.now a.asked.now.sheet.now a.indexed a.contents.bulks (state_of a.register.now a.positions.now) a.index.now a.report.now l.register l.index l.positions l.report l.slots l.walk.heads.at l.walk.bodies.at l.places.line l.places.section l._k l.invariant low read.result read.ensures,
+      c.requires.2,
     )
 
 pub overflow_add-slots : goal.overflow_add-slots
