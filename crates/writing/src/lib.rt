@@ -30,12 +30,14 @@ pub fn put_halves(d: &mut [u8], at: usize, high: u64, low: u64)
     }
 }
 
-// Writes the text s from place at on.
-#[tactic(auto, using(wire::proofs::Stores::text_stored))]
+// Writes the text s from place at on. Byte by byte, of which the compiler makes a copy of what is apart: `copy_from_slice` would ask a
+// caller in C for one of what may overlap, `memmove`.
 pub fn put_text(d: &mut [u8], at: usize, s: &[u8])
     ensures { d.new ≡ sets d.old at s.now }
 {
-    let from = at.min(d.len());
-    let n = s.len().min(d.len() - from);
-    d[from..from + n].copy_from_slice(&s[..n]);
+    let room = d.len() - at.min(d.len());
+    let n = s.len().min(room);
+    for i in 0..n {
+        d[at + i] = s[i];
+    }
 }
