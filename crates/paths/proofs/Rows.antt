@@ -1,6 +1,6 @@
 -- The laws of the table: what a child of a name plays, what no row has as its parent, and what an element lacks. Assumes nothing.
-use mathlib.Core.Path.{◌≡◌, refl}
-use mathlib.Core.Bool.{Bool, true, false, cond, ◌&&◌, false≢true, and-eq-true_iff}
+use mathlib.Core.Path.{◌≡◌, refl, ap, ◌∙◌}
+use mathlib.Core.Bool.{Bool, true, false, not, cond, ◌&&◌, false≢true, and-eq-true_iff, and_assoc, and-true}
 use mathlib.Core.List.{List, [], ◌∷◌}
 use Prim.Native.Nat.{ℕ, ◌≤◌, ◌<◌}
 use native.Mathlib.Omega.{arith}
@@ -49,6 +49,18 @@ module _ (parent : ℕ) (none : roles.document ≤ parent → roles.original_ref
       let h = leb-true r.parent roles.original_reference high in
       ne_eqb r.parent parent (λ (e : r.parent ≡ parent). absurd (omega (arith, none (omega arith))))
 
+  among_none : (name : List ℕ) (rs : List Row) → parents_within rs ≡ true → among rs parent name ≡ roles.other
+  unfolding among parents_within
+  among_none name [] e = refl
+  among_none name (r ∷ rs) e =
+      let both = (and-eq-true_iff _ _).0 e in
+      let ends = (and-eq-true_iff _ _).0 both.0 in
+      rw (apart r ends.0 ends.1, among_none name rs both.1)
+
+  pub child_none : (name : List ℕ) → child_role parent name ≡ roles.other
+  unfolding child_role
+  child_none name = among_none name rows all_within
+
   met_none : (count : ℕ → ℕ) (rs : List Row) → parents_within rs ≡ true → all_met count rs parent ≡ true
   unfolding all_met parents_within
   met_none count [] e = refl
@@ -66,6 +78,37 @@ module _ (parent : ℕ) (none : roles.document ≤ parent → roles.original_ref
 pub lacks_other : (role : ℕ) (count : ℕ → ℕ) → role ≡ roles.other → lacks role count ≡ false
 unfolding lacks all_met
 lacks_other role count e = rw e
+
+-- what the tests of a header and of a message come to, one after the other as the table has them, however often each role is counted
+three : (a b c : Bool) → not (a && b && c) ≡ not (a && (b && (c && true)))
+three a b c = rw (and-true, and_assoc)
+
+six : (a b c d e f : Bool) → not (a && b && c && d && e && f) ≡ not (a && (b && (c && (d && (e && (f && true))))))
+six a b c d e f = simp (and-true, and_assoc)
+
+again : (a b : Bool) → (a && b) ≡ (a && (a && b))
+again true b = refl
+again false b = refl
+
+-- two rows of the table are of one role
+seven : (a b c d e f : Bool) → not (a && b && c && d && e && f) ≡ not (a && (b && (b && (c && (d && (e && (f && true)))))))
+seven a b c d e f = six a b c d e f ∙ ap (λ (t : Bool). not (a && t)) (again b _)
+
+module _ (count : ℕ → ℕ) where
+  abbrev once : ℕ → Bool
+  once role = eqb (count role) 1
+
+  pub header_lacks : not (once roles.bulk_identifier && once roles.stated_number && once roles.stated_sum && once roles.value_date && once roles.settlement && once roles.sender_agent) ≡ lacks roles.payments_header count
+  unfolding lacks all_met
+  header_lacks = seven (once roles.bulk_identifier) (once roles.stated_number) (once roles.stated_sum) (once roles.value_date) (once roles.settlement) (once roles.sender_agent)
+
+  pub payment_lacks : not (once roles.payment_identification && once roles.amount && once roles.receiver_agent) ≡ lacks roles.one_payment count
+  unfolding lacks all_met
+  payment_lacks = three (once roles.payment_identification) (once roles.amount) (once roles.receiver_agent)
+
+  pub return_lacks : not (once roles.identifier && once roles.original_group && once roles.original_amount && once roles.amount && once roles.reason_information && once roles.original_reference) ≡ lacks roles.one_return count
+  unfolding lacks all_met
+  return_lacks = six (once roles.identifier) (once roles.original_group) (once roles.original_amount) (once roles.amount) (once roles.reason_information) (once roles.original_reference)
 
 -- a field lacks nothing
 pub field_complete : (count : ℕ → ℕ) (role : ℕ) → roles.bulk_identifier ≤ role → lacks role count ≡ false

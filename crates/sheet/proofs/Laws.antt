@@ -203,12 +203,22 @@ module _ (s : List ℕ) (b k head at : ℕ) (so_far : end_from s (b - k) head at
   unfolding shape
   walk_ended h end = rw (whole_ended s (sym so_far ∙ end_end s b k head at h ∙ end))
 
--- ---- the kinds: a loop at header k of n
+-- ---- the kinds: a loop at place k of n, whose header begins at place at
 
 pub kind_read : (s : List ℕ) (at : ℕ) → get_or s at 0 ≡ kind_of (header_at s at)
 kind_read s at = sym (one_read s at) ∙ kind_there s at
 
--- where header k begins
+module _ (s : List ℕ) (n k at : ℕ) (h : k < n) where
+  pub known_step : kinds_known (records_at s header_width (n - k) at) ≡ (known_kind (get_or s at 0) && kinds_known (records_at s header_width (n - (k + 1)) (at + header_width)))
+  unfolding kinds_known
+  known_step = rw (records_step header_width s n k at h, ← (kind_read s at))
+
+  pub mixed_step : (seen : Bool)
+      → mixed seen (records_at s header_width (n - k) at) ≡ (seen && eqb (get_or s at 0) payment_kind || mixed (seen || eqb (get_or s at 0) return_kind) (records_at s header_width (n - (k + 1)) (at + header_width)))
+  unfolding mixed
+  mixed_step seen = rw (records_step header_width s n k at h, ← (kind_read s at))
+
+-- the same of header k of a sheet, by where it begins
 abbrev pub head_of : ℕ → ℕ
 head_of k = count_width + header_width * k
 
@@ -219,17 +229,12 @@ abbrev pub headers_left : List ℕ → ℕ → ℕ → List (List ℕ)
 headers_left s n k = records_at s header_width (n - k) (head_of k)
 
 module _ (s : List ℕ) (n k : ℕ) where
-  headers_step : k < n → headers_left s n k ≡ header_at s (head_of k) ∷ headers_left s n (k + 1)
-  headers_step h = rw (← (head_next k)) (records_step header_width s n k (head_of k) h)
-
   pub headers_end : n ≤ k → headers_left s n k ≡ []
   headers_end h = records_end header_width s n k (head_of k) h
 
-  pub known_step : k < n → kinds_known (headers_left s n k) ≡ (known_kind (kind_of (header_at s (head_of k))) && kinds_known (headers_left s n (k + 1)))
-  unfolding kinds_known
-  known_step h = rw (headers_step h)
+  pub known_left : k < n → kinds_known (headers_left s n k) ≡ (known_kind (kind_of (header_at s (head_of k))) && kinds_known (headers_left s n (k + 1)))
+  known_left h = rw (← (kind_read s (head_of k)), ← (head_next k)) (known_step s n k (head_of k) h)
 
-  pub mixed_step : k < n → (seen : Bool)
+  pub mixed_left : k < n → (seen : Bool)
       → mixed seen (headers_left s n k) ≡ (seen && eqb (kind_of (header_at s (head_of k))) payment_kind || mixed (seen || eqb (kind_of (header_at s (head_of k))) return_kind) (headers_left s n (k + 1)))
-  unfolding mixed
-  mixed_step h seen = rw (headers_step h)
+  mixed_left h seen = rw (← (kind_read s (head_of k)), ← (head_next k)) (mixed_step s n k (head_of k) h seen)
