@@ -168,7 +168,10 @@ fn says(s: &[u8], at: usize, word: &[u8]) -> bool
     requires { length word.now < 35 }
     ensures { result ≡ same (said_at s.now at) word.now }
 {
-    texts::same(Told::at(s, at).bytes(), word)
+    match Told::at(s, at) {
+        Told::Straight(t) => texts::same(t, word),
+        Told::Kept(said) => texts::same(wire::text_at(&said.bytes, 0, said.length), word),
+    }
 }
 
 // Whether the text says that the bulk is settled by a clearing system.
