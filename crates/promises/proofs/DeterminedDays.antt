@@ -75,6 +75,9 @@ module _ {M : Type 1} {𝓤 : Ura M} (𝓛 : Logic 𝓤) (mem : Memory → SProp
 
   -- ---- tynderaxo
 
+  pub tynderaxo_day_from : Determined 𝓛 mem run tynderaxo.TynderaxoDayFromResultU32Unanswered.from.ended tynderaxo.TynderaxoDayFromResultU32Unanswered.from.clauses
+  tynderaxo_day_from κs a g r r' ws ws' h h' = (both 𝓤 (results tynderaxo.TynderaxoDayFromResultU32Unanswered.from.ended κs) day_one h.told h'.told, refl)
+
   pub tynderaxo_tynderaxo_open_day : Determined 𝓛 mem run tynderaxo.tynderaxo_open_day.ended tynderaxo.tynderaxo_open_day.clauses
   tynderaxo_tynderaxo_open_day κs a g r r' ws ws' h h' = (both 𝓤 (results tynderaxo.tynderaxo_open_day.ended κs) day_one h.told h'.told, refl)
 

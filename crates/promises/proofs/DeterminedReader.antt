@@ -230,6 +230,9 @@ module _ {M : Type 1} {𝓤 : Ura M} (𝓛 : Logic 𝓤) (mem : Memory → SProp
     λ i. (tt, (both 𝓤 (is_set ℕ_set) (λ p q. ap (λ (o : Outcome). o.sheet) (p ∙ sym q)) h.told h'.told i, tt)),
   )
 
+  pub reading_unread_from : Determined 𝓛 mem run reading.UnreadFromStop.from.ended reading.UnreadFromStop.from.clauses
+  reading_unread_from κs a g r r' ws ws' h h' = (same 𝓤 (results reading.UnreadFromStop.from.ended κs) _ h.told h'.told, refl)
+
   pub reading_number_of : Determined 𝓛 mem run reading.number_of.ended reading.number_of.clauses
   reading_number_of κs a g r r' ws ws' h h' = (number 𝓤 _ h.told h'.told, refl)
 
