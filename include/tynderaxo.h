@@ -5,7 +5,8 @@
  * What a caller owes, for all functions:
  *   - each pointer is valid for the length beside it: for reading where it is const, else for reading and writing;
  *   - no buffer that is written (reg, positions, report, index, the sheet of the reader) overlaps another; what is const may lie over what is const;
- *   - a buffer of length 0 may be a null pointer.
+ *   - a buffer of length 0 may be a null pointer;
+ *   - the archive is linked with memcpy and memset, as C has them, and asks for no other function.
  * Nothing else is asked: the buffers may hold any bytes and have any lengths, and what does not fit is answered.
  *
  * All numbers inside the buffers are big-endian.
